@@ -70,14 +70,14 @@ _x10p_has() {
         arguments=('files asm x10' 'files log')
         ;;
     trace)
-        options=(--places --limit --schedule --seed --explain --color --log --verbose -h --help)
-        values=([--places]='nothing' [--limit]='nothing' [--schedule]='words rounds random oldest newest' [--seed]='nothing' [--explain]='words yes no' [--color]='words auto always never' [--log]='files log')
+        options=(--places --limit --schedule --seed --explain --color --from --to --log --verbose -h --help)
+        values=([--places]='nothing' [--limit]='nothing' [--schedule]='words rounds random oldest newest' [--seed]='nothing' [--explain]='words yes no' [--color]='words auto always never' [--from]='nothing' [--to]='nothing' [--log]='files log')
         optional=(--explain)
         arguments=('files asm x10')
         ;;
     draw)
-        options=(--places --limit --schedule --seed --explain --color --log -h --help)
-        values=([--places]='nothing' [--limit]='nothing' [--schedule]='words rounds random oldest newest' [--seed]='nothing' [--explain]='words yes no' [--color]='words auto always never' [--log]='files log')
+        options=(--places --limit --schedule --seed --explain --color --from --to --log -h --help)
+        values=([--places]='nothing' [--limit]='nothing' [--schedule]='words rounds random oldest newest' [--seed]='nothing' [--explain]='words yes no' [--color]='words auto always never' [--from]='nothing' [--to]='nothing' [--log]='files log')
         optional=(--explain)
         arguments=('files asm x10' 'files svg html')
         ;;

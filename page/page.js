@@ -10,28 +10,22 @@ const AROUND = IS_CROWDED ? 1 : 2;
 
 // ---- elements of the page ----
 
-/** An element with attributes, and in it elements and texts. */
+/** An element with attributes, or of a class, and in it elements and texts. */
 function element(tag, attributes, ...children) {
   const made = document.createElement(tag);
-  for (const [name, value] of Object.entries(attributes)) {
+  const all = typeof attributes === "string" ? { class: attributes } : attributes;
+  for (const [name, value] of Object.entries(all)) {
     if (value !== undefined && value !== false) made.setAttribute(name, value);
   }
   made.append(...children.flat().filter((it) => it !== undefined));
   return made;
 }
 
-/** An element of a class. */
-function styled(tag, name, ...children) {
-  return element(tag, { class: name }, ...children);
-}
-
 function clipped(text) {
   return text.length > WIDEST ? `${text.slice(0, WIDEST)}\u2026 (${text.length} characters)` : text;
 }
 
-function isSame(one, other) {
-  return one === other || JSON.stringify(one) === JSON.stringify(other);
-}
+const isSame = (one, other) => one === other || JSON.stringify(one) === JSON.stringify(other);
 
 /** The classes that have a true value. */
 function classes(names) {
@@ -47,13 +41,13 @@ function unfolding(name, more, fewer) {
   const button = element("button", { type: "button", class: "more", "data-unfolds": name }, text);
   button.addEventListener("click", () => {
     if (!unfolded.delete(name)) unfolded.add(name);
-    show(shown.index, true);
+    show(shown.number, true);
     document.querySelector(`[data-unfolds="${name}"]`)?.focus();
   });
   return button;
 }
 
-/** The rows of a list, and a control for all: without it only the first ones, and those that changed. */
+/** The rows of a list, and a control for all: without them only the first ones, and those that changed. */
 function rowsOf(name, what, list, before, row) {
   const all = unfolded.has(name);
   const rows = [];
@@ -62,8 +56,8 @@ function rowsOf(name, what, list, before, row) {
     const isNew = index >= before.length || !isSame(value, before[index]);
     if (all || index < SHOWN || (isNew && others++ < SHOWN)) rows.push(row(value, index, before[index], isNew));
   });
-  const control = list.length > SHOWN ? [unfolding(name, `all ${list.length} ${what}`, `fewer ${what}`)] : [];
-  return { rows, control };
+  if (list.length > SHOWN) rows.push(element("li", {}, unfolding(name, `all ${list.length} ${what}`, `fewer ${what}`)));
+  return rows;
 }
 
 // ---- an activity ----
@@ -75,11 +69,11 @@ function codeOf(name, frame, done) {
   const least = all ? 0 : Math.max(0, Math.min(frame.pc - AROUND, code.length - window));
   const rows = code.slice(least, all ? code.length : least + window).map((line, n) => {
     const pc = least + n;
-    const marks = { "data-pc": pc, "aria-current": pc === frame.pc && "step", class: classes({ new: pc === done }) };
-    return element("li", marks, styled("span", "number", `${pc}`), line);
+    const marks = { "aria-current": pc === frame.pc && "step", class: classes({ new: pc === done }) };
+    return element("li", marks, element("span", "number", `${pc}`), line);
   });
   const control = code.length > window ? [unfolding(name, `all ${code.length} lines`, "fewer lines")] : [];
-  return element("div", {}, styled("ol", "code", rows), control);
+  return element("div", {}, element("ol", "code", rows), control);
 }
 
 function registersOf(frame, old) {
@@ -87,32 +81,25 @@ function registersOf(frame, old) {
   const rows = frame.registers.map(([register, kind, value]) => {
     const marks = { "data-register": register, class: classes({ new: before.get(register) !== `${[kind, value]}` }) };
     const head = element("th", { scope: "row" }, `r${register}`);
-    return element("tr", marks, head, styled("td", "kind", kind), styled("td", "value", clipped(value)));
+    return element("tr", marks, head, element("td", "kind", kind), element("td", "value", clipped(value)));
   });
-  const loops = loopsAround(frame.function, frame.pc).map((slot) => {
-    const marks = { class: classes({ loop: true, new: frame.loops[slot] !== old.loops[slot] }), "data-loop": slot };
-    return element("p", marks, `loop ${slot}: turns left ${frame.loops[slot]}`);
+  const loops = frame.loops.slice(0, loopsAround(frame.function, frame.pc)).map((turns, slot) => {
+    return element("p", classes({ loop: true, new: turns !== old.loops[slot] }), `loop ${slot}: turns left ${turns}`);
   });
-  return element("div", {}, styled("table", "registers", element("tbody", {}, rows)), loops);
+  return element("div", {}, element("table", "registers", element("tbody", {}, rows)), loops);
 }
 
-/** The frames of the callers, folded, the nearest first. */
-function callersOf(name, stay, old) {
-  const callers = stay.frames.slice(1).map((frame, n) => {
-    const where = styled("p", "told", `function ${frame.function}, at its call`);
-    const before = old.frames.at(n + 1 - stay.frames.length) ?? frame;
-    const code = codeOf(`${name} caller ${stay.frames.length - n}`, frame);
-    return element("div", { "data-caller": n }, where, styled("div", "frame", code, registersOf(frame, before)));
-  });
-  if (!callers.length) return [];
-  const summary = element("summary", {}, `called by function ${stay.frames[1].function}; callers: ${callers.length}`);
+/** The frames of the callers, the nearest first, if they are unfolded, and a control for them. */
+function callersOf(name, frames) {
   const fold = `${name} callers`;
-  const made = element("details", { open: unfolded.has(fold) && "" }, summary, callers);
-  made.addEventListener("toggle", () => (made.open ? unfolded.add(fold) : unfolded.delete(fold)));
-  return [made];
+  const callers = (unfolded.has(fold) ? frames : []).slice(1).map((frame, n) => {
+    const where = element("p", "told", `function ${frame.function}, at its call`);
+    const code = codeOf(`${name} caller ${frames.length - n}`, frame);
+    return element("div", {}, where, element("div", "frame", code, registersOf(frame, frame)));
+  });
+  const told = `called by function ${frames[1]?.function}; callers: ${frames.length - 1}`;
+  return frames.length > 1 ? [...callers, unfolding(fold, told, "hide the callers")] : [];
 }
-
-const CONDITIONS = { works: "works", waits: "waits", away: "away", inside: "in atomic region" };
 
 function conditionOf(stay) {
   if (stay.away) return "away";
@@ -121,82 +108,78 @@ function conditionOf(stay) {
 }
 
 /** An activity; `old` is what it was before the event, or undefined. */
-function stayElement({ event, now, told, isHere }, place, key, stay, old) {
+function stayItem({ event, now, told, isHere }, place, key, stay, old) {
   const name = `${place} stay ${key}`;
   const top = stay.frames[0];
   const condition = conditionOf(stay);
-  const isIts = isHere && event.key === key;
-  const marks = { stay: true, began: !old, moved: isIts && event.kind === "step", tried: isIts && event.kind === "idle" };
-  marks.moved ||= old?.away && !stay.away;
+  // what the event was, if it was one of this activity
+  const did = isHere && event.key === key && event.kind;
+  const hasMoved = did === "step" || (old?.away && !stay.away);
+  const marks = { stay: true, began: !old, moved: hasMoved, tried: did === "idle" };
   // the frame that was there before, with as many callers
   const before = old?.frames.at(-stay.frames.length) ?? { registers: [], loops: top.loops };
-  const hasStayed = isIts && event.kind === "step" && old?.frames.length === stay.frames.length;
-  const state = { state: true, [condition]: true, newly: old && conditionOf(old) !== condition };
-  const heading = [styled("span", "name", nameOf(now, place, key)), styled("span", "key", `key ${key}`)];
+  const hasStayed = did === "step" && old?.frames.length === stay.frames.length;
+  const state = classes({ state: true, [condition]: true, newly: old && conditionOf(old) !== condition });
+  const inWords = element("span", state, condition === "inside" ? "in atomic region" : condition);
   const where = `in function ${top.function}, under ${toldFinish(stay.under)}`;
   const lines = [...told[key], where].map((line) => element("li", {}, line));
   return element(
-    "article",
+    "li",
     { class: classes(marks), "data-key": key },
-    element("h3", {}, heading, styled("span", classes(state), CONDITIONS[condition])),
-    styled("ul", "told", lines),
-    styled("div", "frame", codeOf(name, top, hasStayed ? event.pc : undefined), registersOf(top, before)),
-    callersOf(name, stay, old ?? stay),
+    element("h3", {}, element("span", "name", nameOf(now, place, key)), inWords),
+    element("ul", "told", lines),
+    element("div", "frame", codeOf(name, top, hasStayed ? event.pc : undefined), registersOf(top, before)),
+    callersOf(name, stay.frames),
   );
 }
 
-/** An activity that this event ended. */
-function endedElement({ before }, place, key) {
-  const heading = [styled("span", "name gone", nameOf(before, place, key)), styled("span", "key", `key ${key}`)];
-  return element("article", { class: "stay moved", "data-ended": key }, element("h3", {}, heading, "has ended"));
-}
-
+/** The activities of a place, and those that this event ended. */
 function staysOf(view, place, stays, before) {
   const keys = [...stays.keys()].filter((key) => stays[key]);
   const [list, old] = [stays, before].map((from) => keys.map((key) => from[key] ?? undefined));
-  const row = (stay, n, was) => stayElement(view, place, keys[n], stay, was);
-  const { rows, control } = rowsOf(`${place} stays`, "activities", list, old, row);
-  const ended = [...before.keys()].filter((key) => before[key] && !stays[key]);
-  return [styled("div", "stays", rows, ended.map((key) => endedElement(view, place, key))), ...control];
+  const row = (stay, n, was) => stayItem(view, place, keys[n], stay, was);
+  const ended = [...before.keys()].filter((key) => before[key] && !stays[key]).map((key) => {
+    const name = element("span", "name gone", nameOf(view.before, place, key));
+    return element("li", "stay moved", element("h3", {}, name, "has ended"));
+  });
+  return element("ul", "stays", rowsOf(`${place} stays`, "activities", list, old, row), ended);
 }
 
 // ---- the rest of a place ----
 
-/** A row: what it is, and cells. */
-function item(attributes, isNew, what, ...cells) {
-  return element("li", { ...attributes, class: classes({ new: isNew }) }, what && styled("span", "what", what), ...cells);
+/** A cell of a row. */
+function cell(text, isNew) {
+  return element("span", classes({ value: true, new: isNew }), text);
 }
 
-const ITEMS = {
-  objects: ([number, fields], index, old, isNew) => {
-    const isOther = (value, field) => isNew && old && old[1][field] !== value;
-    const cells = fields.map((value, field) =>
-      element("span", { class: classes({ value: true, new: isOther(value, field) }), "data-field": field }, `${field}: ${clipped(value)}`));
-    return item({ "data-object": index }, isNew, `object ${index}, class ${number}`, cells);
+// Of an element of each list what it is, and its cells.
+const CELLS = {
+  objects: ([number, fields], index, old) => {
+    const cells = fields.map((value, field) => cell(`${field}: ${clipped(value)}`, old && old[1][field] !== value));
+    return [`object ${index}, class ${number}`, ...cells];
   },
-  rails: (bytes, index, old, isNew) => {
-    const others = isNew && old ? [...bytes.keys()].filter((n) => bytes[n] !== old[n]) : [];
-    const marks = others.slice(0, 4).map((n) => styled("span", "value new", `byte ${n}: ${bytes[n]}`));
+  rails: (bytes, index, old) => {
+    const others = old ? [...bytes.keys()].filter((n) => bytes[n] !== old[n]) : [];
     const value = bytes.slice(0, BYTES).join(" ") + (bytes.length > BYTES ? " \u2026" : "");
-    return item({ "data-rail": index }, isNew, `rail ${index}, length ${bytes.length}`, styled("span", "value", value), marks);
+    const marked = others.slice(0, 4).map((n) => cell(`byte ${n}: ${bytes[n]}`, true));
+    return [`rail ${index}, length ${bytes.length}`, cell(value), ...marked];
   },
-  texts: (text, index, old, isNew) =>
-    item({ "data-text": index }, isNew, `text ${index}`, styled("span", "value", clipped(JSON.stringify(text)))),
-  exports: ([number, object], index, old, isNew) =>
-    item({ "data-export": index }, isNew, `reference ${index}, class ${number}`, styled("span", "value", `object ${object}`)),
-  lines: (line, index, old, isNew) => item({ "data-line": index }, isNew, undefined, styled("span", "value", clipped(line))),
+  texts: (text, index) => [`text ${index}`, cell(clipped(JSON.stringify(text)))],
+  exports: ([number, object], index) => [`reference ${index}, class ${number}`, cell(`object ${object}`)],
+  lines: (line) => [undefined, cell(clipped(line))],
+  finishes: (it, index, old) => {
+    const cells = [["live", `${it.live} alive here`], ...countsOf(it)];
+    return [toldFinish(it), ...cells.map(([side, text]) => cell(text, !isSame(it[side], old?.[side])))];
+  },
 };
-const TITLES = { lines: "printed", exports: "exported" };
 
-/** A part of a place that is a list. */
-function listPart(place, name, now, before) {
-  if (!now[name].length) return [];
-  const { rows, control } = rowsOf(`${place} ${name}`, name, now[name], before[name], ITEMS[name]);
-  return [partOf(name, `${TITLES[name] ?? name}: ${now[name].length}`, rows, control)];
-}
-
-function partOf(name, title, rows, control) {
-  return element("div", { "data-part": name }, styled("h3", "part", title), styled("ul", "list", rows), control);
+/** A part of a place that is a list, unless there is nothing in it. */
+function partOf(place, name, title, list, before) {
+  const rows = rowsOf(`${place} ${name}`, name, list, before, (value, index, old, isNew) => {
+    const [what, ...cells] = CELLS[name](value, index, old);
+    return element("li", { class: classes({ new: isNew }) }, what && element("span", "what", what), cells);
+  });
+  return rows.length ? [element("div", { "data-part": name }, element("h3", "part", title), element("ul", "list", rows))] : [];
 }
 
 /** The finishes that a place's stays name, with what it counts of each. */
@@ -213,18 +196,16 @@ function countsOf(it) {
   return sides.filter(([, counts]) => counts.length).map(([side, counts]) => [side, `${side} ${counts.join(", ")}`]);
 }
 
-function finishItem(it, index, old, isNew) {
-  const isOther = (side) => isNew && !isSame(it[side], old?.[side]);
-  const cell = ([side, text]) => element("span", { "data-side": side, class: classes({ new: isOther(side) }) }, text);
-  const cells = [["live", `${it.live} alive here`], ...countsOf(it)].map(cell);
-  return item({ "data-finish": finishKey(it) }, false, toldFinish(it), cells);
-}
+const TITLES = { lines: "printed", objects: "objects", rails: "rails", texts: "texts", exports: "exported" };
 
-function finishesPart(place, now, before) {
-  const list = finishesOf(now.stays);
-  const old = new Map(finishesOf(before.stays).map((it) => [finishKey(it), it]));
-  const { rows, control } = rowsOf(`${place} finishes`, "finishes", list, list.map((it) => old.get(finishKey(it))), finishItem);
-  return list.length ? [partOf("finishes", "finishes, counted here", rows, control)] : [];
+/** What a place shows: its activities, finishes, lines and heap. */
+function contentOf(view, place, now, before) {
+  const [finishes, old] = [now, before].map((it) => finishesOf(it.stays));
+  const was = finishes.map((it) => old.find((other) => finishKey(other) === finishKey(it)));
+  const counted = partOf(place, "finishes", "finishes, counted here", finishes, was);
+  const lists = Object.entries(TITLES).flatMap(([name, title]) =>
+    partOf(place, name, `${title}: ${now[name].length}`, now[name], before[name]));
+  return [staysOf(view, place, now.stays, before.stays), ...counted, ...lists];
 }
 
 /** The card of a place; one where nothing lives and nothing is new is small where there are many. */
@@ -233,52 +214,43 @@ function placeElement(view, place) {
   const before = view.isHere ? view.before.places[place] : now;
   const count = now.stays.filter(Boolean).length;
   const isQuiet = !view.isHere && !count;
-  const hasMore = PARTS.some((part) => now[part].length);
   const isSmall = isQuiet && IS_CROWDED && !unfolded.has(`${place}`);
-  const title = [styled("span", "which", `Place ${place}`)];
+  const title = [element("span", "which", `Place ${place}`)];
   if (!isSmall) title.push(element("small", {}, `${count || "none"} alive`));
-  if (view.isHere) title.push(styled("span", "tag", "\u25c0 event"));
+  if (view.isHere) title.push(element("span", "tag", "\u25c0 event"));
+  const hasMore = PARTS.some((part) => now[part].length);
   if (isQuiet && IS_CROWDED && hasMore) title.push(unfolding(`${place}`, "show", "hide"));
-  const lists = ["lines", "objects", "rails", "texts", "exports"].map((name) => listPart(place, name, now, before));
-  const content = isSmall ? [] : [staysOf(view, place, now.stays, before.stays), finishesPart(place, now, before), ...lists];
   const marks = { class: classes({ place: true, here: view.isHere, quiet: isQuiet, small: isSmall }), "data-place": place };
-  return element("section", marks, element("h2", {}, title), ...content.flat());
+  return element("section", marks, element("h2", {}, title), isSmall ? [] : contentOf(view, place, now, before));
 }
 
-/** The frames in flight, and the one that has just arrived. */
+function flightItem(frame, index, old, isNew) {
+  const heading = element("p", {}, `${frame.type} ${frame.number}: place ${frame.from} \u2192 ${frame.to}`);
+  const told = frame.type === "Report" ? [frame.lines[0], ...countsOf(frame).map(([, text]) => text)] : frame.lines;
+  const lines = few(told, SHOWN).map((line) => element("li", {}, clipped(line)));
+  const marks = { class: classes({ [frame.type]: true, new: isNew }), "data-frame": frame.number };
+  return element("li", marks, heading, element("ul", "lines", lines));
+}
+
+/** The frame that has just arrived, and those in flight. */
 function flightsOf(before, now, event) {
-  const old = now.flights.map((it) => (event.posted.includes(it[0]) ? undefined : it));
-  const row = (flight, index, was, isNew) => {
-    const frame = readFrame(flight);
-    const heading = element("p", {}, `${frame.type} ${frame.number}: place ${frame.from} \u2192 ${frame.to}`);
-    const told = frame.type === "Report" ? [frame.lines[0], ...countsOf(frame).map(([, text]) => text)] : frame.lines;
-    const lines = few(told, SHOWN).map((line) => element("li", {}, clipped(line)));
-    const marks = { class: classes({ [frame.type]: true, new: isNew }), "data-frame": frame.number };
-    return element("li", marks, heading, styled("ul", "lines", lines));
-  };
-  const { rows, control } = rowsOf("flights", "frames", now.flights, old, row);
-  const taken = event.kind === "delivery" ? before.flights.filter((it) => it[0] === event.number) : [];
-  const gone = taken.map((it) => styled("li", "gone", `${readFrame(it).type} ${it[0]} has arrived`));
-  return rows.length + gone.length ? [...rows, ...gone, ...control] : [styled("li", "none", "none")];
+  const taken = frameOf(before, event.number);
+  const gone = taken ? [element("li", "gone", `${taken.type} ${taken.number} has arrived`)] : [];
+  const old = now.flights.map((it) => (event.posted.includes(it.number) ? undefined : it));
+  const rows = [...gone, ...rowsOf("flights", "frames", now.flights, old, flightItem)];
+  return rows.length ? rows : [element("li", "none", "none")];
 }
 
 // ---- the page ----
 
 const byId = (name) => document.getElementById(name);
 // What is shown: the moment, and of each place the element and what it was made from.
-const shown = { index: 0, cards: [] };
-
-/** Scrolls to an element, or only where it can't be seen. */
-function bringIntoView(made, isAsked) {
-  const { top, bottom } = made.getBoundingClientRect();
-  const head = byId("head").getBoundingClientRect().bottom;
-  if (isAsked || top < head || Math.min(bottom, top + 300) > innerHeight) scrollBy(0, top - head - 8);
-}
+const shown = { number: undefined, cards: [] };
 
 /** Scrolls to what an event changed; and again in the next moments, since what comes into view may have another height. */
 function follow(place, times) {
   const card = shown.cards[place].card;
-  bringIntoView(card.querySelector(".moved, .began, .tried") ?? card, false);
+  (card.querySelector(".moved, .began, .tried") ?? card).scrollIntoView({ block: "nearest" });
   if (times > 1) requestAnimationFrame(() => follow(place, times - 1));
 }
 
@@ -297,27 +269,26 @@ function showPlace(view, place, anew) {
   button.title = `place ${place}: ${count} alive`;
 }
 
-function showEvent(index, event, before, now) {
+function showEvent(number, event, before, now) {
   const told = toldEvent(event, before);
-  const notes = index ? notesOf(event, before, now) : [];
-  if (index === LAST) notes.push(ENDS[run.end] ?? `The run stopped: ${run.end}`);
-  byId("position").textContent = `event ${index} of ${LAST}`;
+  const notes = [...notesOf(event, before, now), ...(number === LAST ? [ENDS[run.end]] : [])];
+  byId("position").textContent = `event ${number} of ${LAST}`;
   byId("event").textContent = told;
   byId("notes").replaceChildren(...notes.map((it) => element("li", {}, it)));
-  byId("slider").value = index;
-  byId("slider").setAttribute("aria-valuetext", `event ${index}: ${told}`);
-  for (const name of ["first", "back"]) byId(name).disabled = index === 0;
-  for (const name of ["forward", "last"]) byId(name).disabled = index === LAST;
+  byId("slider").value = number;
+  byId("slider").setAttribute("aria-valuetext", `event ${number}: ${told}`);
+  for (const name of ["first", "back"]) byId(name).disabled = number === FIRST;
+  for (const name of ["forward", "last"]) byId(name).disabled = number === LAST;
 }
 
 /** Shows a moment; with `anew` all of it is made again. */
-function show(index, anew) {
-  const before = stateAt(Math.max(0, index - 1));
-  const now = stateAt(index);
-  const event = eventOf(run.moments[index]);
+function show(number, anew) {
+  const before = stateAt(Math.max(FIRST, number - 1));
+  const now = stateAt(number);
+  const event = eventOf(run.moments[number - FIRST]);
   const links = linksOf(now);
-  shown.index = index;
-  showEvent(index, event, before, now);
+  shown.number = number;
+  showEvent(number, event, before, now);
   now.places.forEach(({ stays }, place) => {
     const told = stays.map((stay, key) => stay && toldStay(now, links, place, key));
     showPlace({ event, before, now, told, isHere: event.place === place }, place, anew);
@@ -329,9 +300,9 @@ function show(index, anew) {
 }
 
 /** Goes to a moment, or to the nearest one that there is. */
-function goTo(index) {
-  const nearest = Math.max(0, Math.min(LAST, index));
-  if (nearest !== shown.index) show(nearest);
+function goTo(number) {
+  const nearest = Math.max(FIRST, Math.min(LAST, number));
+  if (nearest !== shown.number) show(nearest);
 }
 
 let resting;
@@ -339,60 +310,54 @@ let resting;
 /** The address follows once the page is at rest, since browsers limit how often it may change. */
 function keepAddress() {
   clearTimeout(resting);
-  resting = setTimeout(() => history.replaceState(null, "", `#${shown.index}`), 300);
+  resting = setTimeout(() => history.replaceState(null, "", `#${shown.number}`), 300);
 }
 
-function fromAddress() {
-  return Number(/^#(\d+)$/.exec(location.hash)?.[1] ?? 0);
+/** Goes to the moment that the address names. */
+function goToAddress() {
+  goTo(Number(/^#(\d+)$/.exec(location.hash)?.[1] ?? FIRST));
+  keepAddress();
 }
 
 let playing;
 
 function play(isOn) {
   clearInterval(playing);
-  const forward = () => (shown.index < LAST ? goTo(shown.index + 1) : play(false));
+  const forward = () => (shown.number < LAST ? goTo(shown.number + 1) : play(false));
   playing = isOn && setInterval(forward, 1000 / Number(byId("speed").value));
   byId("play").textContent = isOn ? "Pause" : "Play";
 }
 
-const KEYS = {
-  ArrowLeft: () => goTo(shown.index - 1),
-  ArrowRight: () => goTo(shown.index + 1),
-  PageUp: () => goTo(shown.index - 10),
-  PageDown: () => goTo(shown.index + 10),
-  Home: () => goTo(0),
-  End: () => goTo(LAST),
-};
+// How many events a key goes forward.
+const KEYS = { ArrowLeft: -1, ArrowRight: 1, PageUp: -10, PageDown: 10, Home: -Infinity, End: Infinity };
 
 function pressed(event) {
   const isOther = event.ctrlKey || event.altKey || event.metaKey || event.target.tagName === "SELECT";
-  if (isOther || !KEYS[event.key]) return;
+  if (isOther || !(event.key in KEYS)) return;
   event.preventDefault();
-  KEYS[event.key]();
+  goTo(shown.number + KEYS[event.key]);
 }
 
 function begin() {
   byId("places").style.setProperty("--most", run.places < 4 ? run.places : IS_CROWDED ? 12 : 4);
   byId("places").classList.toggle("crowded", IS_CROWDED);
-  byId("slider").max = LAST;
+  Object.assign(byId("slider"), { min: FIRST, max: LAST });
   byId("listing").textContent = run.listing;
   for (let place = 0; place < run.places; place++) {
     shown.cards.push({ card: byId("places").appendChild(element("section", {})) });
     const button = byId("map").appendChild(element("button", { type: "button" }, `${place}`));
-    button.addEventListener("click", () => bringIntoView(shown.cards[place].card, true));
+    button.addEventListener("click", () => shown.cards[place].card.scrollIntoView());
   }
-  const { ArrowLeft: back, ArrowRight: forward, Home: first, End: last } = KEYS;
-  const clicks = { first, back, forward, last, play: () => play(!playing) };
-  for (const [name, does] of Object.entries(clicks)) byId(name).addEventListener("click", does);
+  const { Home: first, ArrowLeft: back, ArrowRight: forward, End: last } = KEYS;
+  for (const [name, events] of Object.entries({ first, back, forward, last })) {
+    byId(name).addEventListener("click", () => goTo(shown.number + events));
+  }
+  byId("play").addEventListener("click", () => play(!playing));
   byId("slider").addEventListener("input", () => goTo(Number(byId("slider").value)));
   byId("speed").addEventListener("change", () => play(Boolean(playing)));
   document.addEventListener("keydown", pressed);
-  addEventListener("hashchange", () => {
-    goTo(fromAddress());
-    keepAddress();
-  });
-  stateAt(LAST);
-  show(Math.min(LAST, fromAddress()));
+  addEventListener("hashchange", goToAddress);
+  goToAddress();
 }
 
 begin();

@@ -7,7 +7,9 @@ const NO_PLACE = Object.fromEntries(PARTS.map((part) => [part, []]));
 const STRIDE = 50;
 
 const run = JSON.parse(document.getElementById("run").textContent);
-const LAST = run.moments.length - 1;
+// A moment's number is how many events of the run were made until then.
+const FIRST = run.before;
+const LAST = FIRST + run.moments.length - 1;
 
 // ---- the listing ----
 
@@ -15,15 +17,11 @@ const LAST = run.moments.length - 1;
 const functions = run.listing.split("\nfunc ").slice(1).map((it) => it.split("\nend")[0].split("\n").slice(1));
 const ENTRY = Number(run.listing.split("\nentry ")[1]);
 
-/** The slots of the loops around an instruction, the outermost first. */
+/** How many loops are around an instruction. Their slots are the first ones, the outermost first. */
 function loopsAround(number, pc) {
-  const open = [];
-  for (const line of functions[number].slice(0, pc)) {
-    const [name, slot] = line.split(" ");
-    if (name === "LOOP") open.push(Number(slot));
-    if (name === "ENDL") open.pop();
-  }
-  return open;
+  const code = functions[number].slice(0, pc);
+  const count = (name) => code.filter((line) => line.startsWith(name)).length;
+  return count("LOOP ") - count("ENDL ");
 }
 
 // ---- states ----
@@ -31,9 +29,7 @@ function loopsAround(number, pc) {
 /** The list that a difference makes of another one, which stays as it is. */
 function changed(list, [length, ...elements]) {
   if (!elements.length && length === list.length) return list;
-  const made = list.slice(0, length);
-  for (const [index, value] of elements) made[index] = value;
-  return made;
+  return Object.assign(list.slice(0, length), Object.fromEntries(elements));
 }
 
 /** The state after a moment's event; what didn't change is shared with the state before. */
@@ -43,44 +39,41 @@ function after(state, moment) {
     const old = places[place] ?? NO_PLACE;
     places[place] = Object.fromEntries(PARTS.map((part) => [part, changed(old[part], parts[part])]));
   }
+  const taken = frameOf(state, eventOf(moment).number);
+  const flights = [...state.flights.filter((it) => it !== taken), ...moment.posts.map(readFrame)];
   const isMain = state.isMain && Boolean(places[0].stays[0]);
-  return { places, flights: flightsAfter(state, moment), reports: reportsAfter(state, moment), isMain };
+  return { places, flights, reports: reportsAfter(state.reports, taken), isMain };
 }
 
-/** The frames in flight after a moment's event: without the one that was taken in, and with those that were put out. */
-function flightsAfter(state, moment) {
-  const event = eventOf(moment);
-  const left = event.kind === "delivery" ? state.flights.filter(([number]) => number !== event.number) : state.flights;
-  return moment.posts.length ? [...left, ...moment.posts] : left;
+/** What was reported to the homes, with a frame more: for each finish and each place that reports the greatest counts. */
+function reportsAfter(reports, frame) {
+  if (frame?.type !== "Report") return reports;
+  const finish = finishKey(frame.finish);
+  const known = reports[finish]?.[frame.from] ?? { sent: [], received: [] };
+  const greatest = (side) => frame[side].map((count, n) => Math.max(count, known[side][n] ?? 0));
+  const counts = { sent: greatest("sent"), received: greatest("received") };
+  return { ...reports, [finish]: { ...reports[finish], [frame.from]: counts } };
 }
 
 /** The state of the first moment. Key 0 of place 0 is main where it has begun with the entry function. */
 function firstState() {
-  const state = after({ places: [], flights: [], reports: {}, isMain: true }, run.moments[0]);
+  const flights = run.flights.slice(1).map(readFrame);
+  const state = after({ places: [], flights, reports: {} }, run.moments[0]);
   const stay = state.places[0].stays[0];
-  return { ...state, isMain: state.isMain && !stay.back && stay.frames.at(-1).function === ENTRY };
-}
-
-/** What was reported to the homes: for each finish and each place that reports the greatest counts. */
-function reportsAfter(state, moment) {
-  const event = eventOf(moment);
-  const frame = event.kind === "delivery" && frameOf(state, event.number);
-  if (!frame || frame.type !== "Report") return state.reports;
-  const finish = finishKey(frame.finish);
-  const before = state.reports[finish] ?? {};
-  const known = before[frame.from] ?? { sent: [], received: [] };
-  const greatest = (side) => frame[side].map((count, n) => Math.max(count, known[side][n] ?? 0));
-  const counts = { sent: greatest("sent"), received: greatest("received") };
-  return { ...state.reports, [finish]: { ...before, [frame.from]: counts } };
+  return { ...state, isMain: stay?.back === null && stay.frames.at(-1).function === ENTRY };
 }
 
 const kept = [firstState()];
+
+// The finishes that were open at the first moment: what was reported on them until then isn't known.
+const openBefore = new Set(kept[0].places.flatMap(({ stays }) => stays.flatMap((it) => it?.finishes ?? [])).map(finishKey));
 
 // The state that was asked for last, from which one goes forward.
 let latest = { at: 0, state: kept[0] };
 
 /** The state at a moment. */
-function stateAt(index) {
+function stateAt(number) {
+  const index = number - FIRST;
   const from = Math.min(Math.floor(index / STRIDE), kept.length - 1) * STRIDE;
   let { at, state } = latest.at <= index && latest.at >= from ? latest : { at: from, state: kept[from / STRIDE] };
   while (at < index) {
@@ -94,38 +87,29 @@ function stateAt(index) {
 // ---- events and frames ----
 
 /** What a moment's event is, and which frames it put out. */
-function eventOf(moment) {
-  const [[letter, ...words], ...lines] = moment.event.split("\n").map((line) => line.split(" "));
-  const posted = lines.filter(([first]) => first === "P").map((line) => Number(line[1]));
-  const [one, two, number, pc] = words.map(Number);
-  if (letter === "S") return { kind: "step", place: one, key: two, function: number, pc, posted };
-  if (letter === "D") return { kind: "delivery", number: one, place: two, posted };
-  if (letter !== "-") return { kind: "start", posted };
-  return words.length === 2 ? { kind: "idle", place: one, key: two, posted } : { kind: "idle", number: one, posted };
+function eventOf({ event, posts }) {
+  const [letter, ...words] = event.split("\n")[0].split(" ");
+  const [one, two, called, pc] = words.map(Number);
+  const kind = { S: "step", D: "delivery", "-": "idle" }[letter] ?? "start";
+  const isOfFrame = letter === "D" || two === undefined;
+  const whose = isOfFrame ? { number: one, place: two } : { place: one, key: two, function: called, pc };
+  return { kind, ...whose, posted: posts.map(([number]) => number) };
 }
 
-const frames = new WeakMap();
-
 /** A frame in flight, read from its lines. */
-function readFrame(flight) {
-  if (!frames.has(flight)) {
-    const [number, to, text] = flight;
-    const [first, ...lines] = text.trimEnd().split("\n");
-    const [, type, from] = /^frame: (\w+), .*from place (\d+)/.exec(first);
-    const words = (name) => lines.find((line) => line.startsWith(name + ": "))?.slice(name.length + 2);
-    const numbers = (name) => (words(name)?.match(/\d+/g) ?? []).map(Number);
-    const [finish, home] = numbers("finish");
-    const read = { number, to, type, from: Number(from), lines, finish: { number: finish, home } };
-    Object.assign(read, { waiting: numbers("waiting"), function: words("function") });
-    frames.set(flight, Object.assign(read, { sent: numbers("sent"), received: numbers("received") }));
-  }
-  return frames.get(flight);
+function readFrame([number, to, text]) {
+  const [first, ...lines] = text.trimEnd().split("\n");
+  const [, type, from] = /^frame: (\w+), .*from place (\d+)/.exec(first);
+  const words = (name) => lines.find((line) => line.startsWith(name + ": "))?.slice(name.length + 2);
+  const numbers = (name) => (words(name)?.match(/\d+/g) ?? []).map(Number);
+  const [finish, home] = numbers("finish");
+  const read = { number, to, type, from: Number(from), lines, finish: { number: finish, home }, waiting: numbers("waiting") };
+  return { ...read, function: words("function"), sent: numbers("sent"), received: numbers("received") };
 }
 
 /** The frame in flight with a number. */
 function frameOf(state, number) {
-  const flight = state.flights.find((it) => it[0] === number);
-  return flight && readFrame(flight);
+  return state.flights.find((it) => it.number === number);
 }
 
 function finishKey(finish) {

@@ -1,4 +1,4 @@
-# Pictures of runs: well-formed, an arrow for each frame of the trace, and written whole or not at all.
+# Pictures of runs: well-formed, with room for each label, an arrow for each frame of the trace, and written whole or not at all.
 top="$(cd "$(dirname "$0")/../.." && pwd)"
 source "$(dirname "$0")/common"
 
@@ -16,7 +16,7 @@ for number, frm, to in sorted({tuple(map(int, re.findall(r"\d+", it)[:3])) for i
 PY
 }
 
-for example in round_trip ring fan_out nested; do
+for example in round_trip ring fan_out nested fib shared_counter; do
     x10p asm "$top/examples/$example.asm" "$example.x10" || fail "$example: status $?"
     does 0 "" "" x10p draw "$example.x10" "$example.svg"
     look "$example.svg" >.found || fail "$example.svg can't be read"
@@ -27,6 +27,14 @@ for example in round_trip ring fan_out nested; do
     same "$example.svg" again.svg
 done
 rm -f again.svg
+
+# over 64 places, of which most are idle
+x10p draw fan_out.x10 wide.svg --places 64 || fail "wide.svg: status $?"
+# no label is over another one, or over a bar, and none hides an end of an arrow
+"$top/docs/pictures/check" ./*.svg >.found || fail "pictures: $(grep -v ' 0 faults' .found | head -n 5)"
+# a long run is no longer than a few screens
+high="$(sed -n 's/.* height="\([0-9]*\)" viewBox.*/\1/p' fib.svg | head -n 1)"
+[ "$high" -lt 4000 ] || fail "fib.svg is $high pixels high"
 
 # the pictures of docs/ are those that are made now
 "$top/docs/pictures/make" --check "$PWD/x10p" || fail "docs/pictures/make makes them anew"

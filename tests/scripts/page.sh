@@ -27,10 +27,21 @@ done
 shows 0 round_trip
 shows 0 nested --schedule random --seed 3
 shows 2 fan_out --places 64 --limit 150
+# a page that begins in the middle: of a run until an event, to its end, and of a log
+shows 0 ring --from 20 --to 60
+shows 0 fan_out --schedule oldest --from 90
+x10p run nested.x10 --threads --log nested.log >.out || fail "no log"
+shows 0 nested --log nested.log --from 10
 browser=()
 shows 0 ring
-x10p run nested.x10 --threads --log nested.log >.out || fail "no log"
+shows 0 ring --from 1 --to 1
+shows 0 nested --log nested.log --from 2 --to 30
 shows 0 nested --log nested.log
+
+# a part up to the last event says that the run has ended, and one event less that it was stopped
+last="$(x10p trace round_trip.x10 | grep -c '^[SD-] ')"
+shows 0 round_trip --from 2 --to "$last"
+shows 0 round_trip --from 2 --to $((last - 1))
 
 # a text in it stays a text
 printf 'places 1\ntext "</script><b>&<!--"\nfunc 1 0 none\nTEXTK 0 0\nPRINT 0\nRET 0\nend\nentry 0\n' >marks.asm

@@ -12,7 +12,7 @@
     event: byId("event").textContent,
     notes: all("#notes li").map((it) => it.textContent),
     registers: Object.fromEntries(registers()),
-    lines: all("[data-line]").map((it) => [place(it), it.textContent]),
+    lines: all('[data-part="lines"] .list > li').map((it) => [place(it), it.textContent]),
     frames: all("#flights [data-frame]").map((it) => it.dataset.frame),
   });
   const walk = (button) => {
@@ -25,5 +25,9 @@
   };
   byId("first").click();
   const said = { forward: walk("forward"), back: walk("back").reverse() };
+  const { min, max } = byId("slider");
+  location.hash = max;
+  goToAddress();
+  Object.assign(said, { slider: [min, max].map(Number), address: Number(byId("slider").value) });
   document.body.append(element("pre", { id: "said" }, JSON.stringify(said)));
 })();

@@ -1,11 +1,13 @@
 # What --stats tells of a run is what its trace has, by each schedule, also where the run is at its limit; and the run prints what
-# it prints without it. For a heap it is enough that what is made is counted: see tests/stats.
+# it prints without it. Activities are followed in the trace by what its frames say, and by the keys of their stays. For a heap it
+# is enough that what is made is counted: see tests/stats.
 top="$(cd "$(dirname "$0")/../.." && pwd)"
 source "$(dirname "$0")/common"
 
 python3 - "$top" <<'PY' || wrong=1
 import subprocess, sys
 from collections import Counter
+from functools import cache
 from pathlib import Path
 tests = Path(sys.argv[1], "tests")
 MOST = 3000
@@ -28,6 +30,73 @@ def counted_in(trace):
         found[f"{name} frames"], found[f"{name} bytes"] = len(of_type), sum(map(len, of_type)) // 2
     return found
 
+class Followed:
+    """The activities in a trace. One that goes to another place is the same there, and when it comes back."""
+
+    def __init__(self, listing):
+        self.code, self.begun, self.stays, self.posted = [], [], {}, {}
+        self.used, self.free = Counter(), {}
+        for words in map(str.split, listing.splitlines()):
+            if words[0] == "func":
+                self.code.append([])
+            elif words[0] == "entry":
+                self.begin(0, self.activity(int(words[1])))
+            elif self.code:
+                self.code[-1].append(words)
+
+    def activity(self, function):
+        self.begun.append({"function": function, "steps": 0})
+        return self.begun[-1]
+
+    def begin(self, place, activity):
+        """A stay begins, with the key that was given up last, or the least that was never in use."""
+        free = self.free.setdefault(place, [])
+        key = free.pop() if free else self.used[place]
+        self.used[place] = max(self.used[place], key + 1)
+        self.stays[place, key] = {"activity": activity, "calls": 0}
+
+    def step(self, place, key, function, pc, name):
+        stay = self.moved = self.stays[place, key]
+        stay["activity"]["steps"] += 1
+        if name == "ASYNC":
+            self.begin(place, self.activity(int(self.code[function][pc][-1])))
+        elif name == "CALL":
+            stay["calls"] += 1
+        elif name == "RET" and stay["calls"]:
+            stay["calls"] -= 1
+        elif name == "RET":
+            del self.stays[place, key]
+            self.free[place].append(key)
+
+    def deliver(self, number, to):
+        frame, activity = self.posted.pop(number)
+        if frame[1] == 1:
+            self.begin(to, self.activity(int.from_bytes(frame[12:14], "big")))
+        elif frame[1] == 2:
+            self.begin(to, activity)
+
+    def follow(self, trace):
+        for sort, *words in map(str.split, trace.splitlines()):
+            if sort == "S":
+                self.step(*map(int, words[:4]), words[4])
+            elif sort == "P":
+                self.posted[int(words[0])] = bytes.fromhex(words[3]), self.moved["activity"]
+            elif sort == "D":
+                self.deliver(*map(int, words))
+
+    def lines(self, bounds):
+        """What is told of the functions with which activities began."""
+        for function, bound in map(str.split, bounds.splitlines()):
+            steps = [it["steps"] for it in self.begun if it["function"] == int(function)]
+            if steps:
+                head = f"function {function}, activities:"
+                yield f"{head:25} {len(steps)}, most steps: {max(steps)}, bound: {bound}"
+
+@cache
+def module_of(path):
+    """A module's listing, and its bounds."""
+    return told("list", path)[1], told("bounds", path)[1]
+
 def differs(path, words):
     """Where what is told differs from the trace, if it does."""
     status, trace, fault = told("trace", path, *words)
@@ -37,7 +106,15 @@ def differs(path, words):
         return f"status {found[0]} with --stats, and {right[0]} without it"
     if found[2][: len(fault)] != fault:
         return f"the first lines are {found[2][:1]}, and not {fault}"
-    numbers = dict(line.split(":") for line in found[2][len(fault):])
+    lines = found[2][len(fault):]
+    listing, bounds = module_of(path)
+    followed = Followed(listing)
+    followed.follow(trace)
+    wanted = list(followed.lines(bounds))
+    functions = [line for line in lines if line.startswith("function")]
+    if functions != wanted:
+        return f"{functions}, and by the trace {wanted}"
+    numbers = dict(line.split(":") for line in lines if line not in functions)
     for name, number in counted_in(trace).items():
         if int(numbers.get(name, -1)) != number:
             return f"{name}: {numbers.get(name)}, and the trace has {number}"

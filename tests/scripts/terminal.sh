@@ -67,6 +67,8 @@ grep -qF "$(printf '\033[1;32m')" .err && grep -qE '\^' .err || fail "the marks 
 # a check of a good file, in words at a terminal
 does 0 "0 3" "" x10p check seven.asm
 is "a check at a terminal" "$(at 1 x10p check seven.asm)" "function 0: at most 3 steps"
+printf 'places 1\nfunc 1 2 none\nLOOP 0 65535\nLOOP 1 65535\nENDL 1 2\nENDL 0 1\nRET 0\nend\nentry 0\n' >above.asm
+is "a bound above the limit at a terminal" "$(at 1 x10p check above.asm)" "function 0: at most 4294967297 steps; --limit permits 1000000000 events at most"
 is "a refused check at a terminal" "$(at 1 x10p check kind.asm)" "${bold}Kind, function 0, instruction 1$plain: PRINT 0
 line 4:   PRINT 0
 PRINT asks that r0 is int or text; r0 is place.

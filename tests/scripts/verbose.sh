@@ -31,9 +31,34 @@ for example in round_trip ring fan_out nested fib; do
     compares "$example.x10" --limit 20000
     compares "$example.x10" --schedule random --seed 7 --limit 20000
     compares "$example.x10" --schedule newest --limit 7
+    compares "$example.x10" --from 3 --to 40 --limit 20000
     x10p run "$example.x10" --threads --log "$example.log" --limit 2000 >.out 2>.err
     [ "$?" -ne 0 ] || compares "$example.x10" --log "$example.log"
 done
+
+# shows FROM TO WORD ..: with --from and --to the lines of those events alone, with their notes
+shows() {
+    local from=$1 to=$2
+    shift 2
+    compares "$@" --from "$from" --to "$to"
+    x10p trace --verbose "$@" 2>/dev/null | awk -v from="$from" -v to="$to" '/^[SD-] / { n++ } n >= from && n <= to' >wanted
+    cmp -s noted wanted || fail "trace --verbose $* --from $from --to $to: $(diff wanted noted | head -n 3)"
+}
+
+for example in ring fan_out; do
+    shows 1 1 "$example.x10"
+    shows 20 60 "$example.x10"
+    shows 33 33 "$example.x10" --schedule random --seed 7
+    shows 5 9 "$example.x10" --log "$example.log"
+    compares "$example.x10" --from 100000
+    [ ! -s noted ] || fail "$example.x10: events behind its last one"
+done
+# the run goes no further than --to, and --limit counts what isn't shown
+compares ring.x10 --from 30 --to 30 --limit 30
+[ "$(grep -c '^[SD-] ' plain)" -eq 1 ] || fail "ring.x10: not the event 30 alone"
+compares ring.x10 --from 30 --limit 40
+[ "$(grep -c '^[SD-] ' plain)" -eq 11 ] || fail "ring.x10: not the events 30 to 40"
+does 2 "" "x10p: limit" x10p trace ring.x10 --from 30 --limit 20
 
 # what is refused is refused as without it
 prints 7 >seven.txt

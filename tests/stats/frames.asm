@@ -16,6 +16,8 @@
 ; > Back bytes:               33
 ; > Report frames:            2
 ; > Report bytes:             56
+; > function 0, activities:   1, most steps: 1, bound: 1
+; > function 2, activities:   1, most steps: 8, bound: 8
 ; > place 0, objects:         0
 ; > place 0, rails:           0
 ; > place 0, texts:           0
@@ -41,6 +43,8 @@
 ; > Back bytes:               0
 ; > Report frames:            1
 ; > Report bytes:             28
+; > function 0, activities:   1, most steps: 1, bound: 1
+; > function 2, activities:   1, most steps: 3, bound: 8
 ; > place 0, objects:         0
 ; > place 0, rails:           0
 ; > place 0, texts:           0
@@ -70,6 +74,7 @@
 ; > Back bytes:               0
 ; > Report frames:            0
 ; > Report bytes:             0
+; > function 2, activities:   1, most steps: 1, bound: 8
 ; > place 0, objects:         0
 ; > place 0, rails:           0
 ; > place 0, texts:           0

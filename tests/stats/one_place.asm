@@ -14,6 +14,8 @@
 ; > Back bytes:               0
 ; > Report frames:            0
 ; > Report bytes:             0
+; > function 0, activities:   1, most steps: 1, bound: 1
+; > function 1, activities:   1, most steps: 8, bound: 8
 ; > place 0, objects:         1
 ; > place 0, rails:           0
 ; > place 0, texts:           0
@@ -34,6 +36,7 @@
 ; > Back bytes:               0
 ; > Report frames:            0
 ; > Report bytes:             0
+; > function 1, activities:   1, most steps: 5, bound: 8
 ; > place 0, objects:         1
 ; > place 0, rails:           0
 ; > place 0, texts:           0
@@ -55,6 +58,8 @@
 ; > Back bytes:               0
 ; > Report frames:            0
 ; > Report bytes:             0
+; > function 0, activities:   1, most steps: 1, bound: 1
+; > function 1, activities:   1, most steps: 8, bound: 8
 ; > place 0, objects:         1
 ; > place 0, rails:           0
 ; > place 0, texts:           0

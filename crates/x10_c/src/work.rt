@@ -15,7 +15,7 @@ use x10_bounds::bounds;
 use x10_cli::{
     Fault, image_of, is_image, print_check, print_image, print_listing, print_run, verified_in,
 };
-use x10_task::{Color, Schedule, Task, Verb};
+use x10_task::{Color, Schedule, Task, Verb, Window};
 
 /// Whether the bytes are the image of a module that the verifier accepts.
 pub fn verified(alloc: Global, image: &[u8]) -> Result<(), Fault>
@@ -120,6 +120,7 @@ fn task(verb: Verb, places: Option<u16>, limit: u64) -> Task<'static>
         schedule: Schedule::Rounds,
         seed: None,
         seeds: 1,
+        window: Window::all(),
         threads: false,
         json: false,
         stats: false,

@@ -10,8 +10,7 @@ use Rattle.x10_world.specs.Rounds.{RunsTo}
 use Rattle.x10_world.specs.StandsForWorld.{WorldState}
 use Rattle.x10_world.specs.declared.rounds.Unfinished.{Unfinished}
 use Rattle.x10_stats.specs.Lines.{stats_lines}
-use Rattle.x10_stats.specs.Stats.{IsCut, at_first}
-use Rattle.x10_stats.specs.declared.stats.Stats.{Stats}
+use Rattle.x10_stats.specs.Counts.{CountsState, IsCut, counts_at_first}
 use Rattle.x10_task.specs.declared.task.Verb.TheVariants as verb
 use Rattle.x10_cli.specs.declared.fault.Fault.{Fault}
 use Rattle.x10_cli.specs.declared.fault.Fault.TheVariants as fault
@@ -23,9 +22,9 @@ use Rattle.x10_cli.proofs.RunLemmas.{no_file}
 
 -- ---- it stays where nothing more is written
 
-counts_kept : (first : WorldState) (Went : Course) (json : Bool) (text a b c : Option (List ℕ)) → PrintsCounts first Went json text a b → Keeps b c
-    → PrintsCounts first Went json text a c
-counts_kept first Went json text a b c p k = record {
+counts_kept : (m : Certified) (first : WorldState) (Went : Course) (json : Bool) (text a b c : Option (List ℕ)) → PrintsCounts m first Went json text a b
+    → Keeps b c → PrintsCounts m first Went json text a c
+counts_kept m first Went json text a b c p k = record {
   last = p.last;
   counts = p.counts;
   runs = p.runs;
@@ -34,9 +33,9 @@ counts_kept first Went json text a b c p k = record {
   told = p.told;
 }
 
-pub all_kept : (asked : Option ℕ) (bytes : List ℕ) (Went : Course) (json : Bool) (text a b c : Option (List ℕ))
+pub all_kept : (asked : Option ℕ) (bytes : List ℕ) (Went : Certified → Course) (json : Bool) (text a b c : Option (List ℕ))
     → LeavesCounts asked bytes Went json text a b → Keeps b c → LeavesCounts asked bytes Went json text a c
-all_kept asked bytes Went json text a b c p k = (p.0, p.1, p.2, p.3, counts_kept p.1 Went json text a b c p.4 k)
+all_kept asked bytes Went json text a b c p k = (p.0, p.1, p.2, p.3, counts_kept p.0 p.1 (Went p.0) json text a b c p.4 k)
 
 pub some_kept : (asked : Option ℕ) (bytes : List ℕ) (limit : ℕ) (f : Fault) (json : Bool) (text a b c : Option (List ℕ))
     → LeavesSomeCounts asked bytes limit f json text a b → Keeps b c → LeavesSomeCounts asked bytes limit f json text a c
@@ -57,18 +56,18 @@ counts_printed asked bytes limit json text a b p = (
 
 pub counts_left : {T : Type 0} (r : Result T Fault) (asked : Option ℕ) (bytes : List ℕ) (c : Certified) (first : WorldState) (limit : ℕ) (json : Bool)
     (text a b : Option (List ℕ)) → IsImageOf bytes c → IsOpenedWorld c (places_for asked c) first
-    → OnOk r (PrintsCounts first (CountsAll limit) json text a b) → OnOk r (LeavesCounts asked bytes (CountsAll limit) json text a b)
+    → OnOk r (PrintsCounts c first (CountsAll limit c) json text a b) → OnOk r (LeavesCounts asked bytes (CountsAll limit) json text a b)
 counts_left (Ok t) asked bytes c first limit json text a b is opened p = (c, first, is, opened, p)
 counts_left (Err e) asked bytes c first limit json text a b is opened p = tt
 
 -- ---- one that stopped
 
-abbrev pub Stops : WorldState → ℕ → Fault → Bool → Option (List ℕ) → Option (List ℕ) → Option (List ℕ) → Type 0
-Stops first limit e json text a b = (e ≡ fault.File) ⊎ ((e ≡ fault.Memory) × (text ≡ None) × Keeps a b)
-    ⊎ PrintsCounts first (CountsSome limit e) json text a b
+abbrev pub Stops : Certified → WorldState → ℕ → Fault → Bool → Option (List ℕ) → Option (List ℕ) → Option (List ℕ) → Type 0
+Stops c first limit e json text a b = (e ≡ fault.File) ⊎ ((e ≡ fault.Memory) × (text ≡ None) × Keeps a b)
+    ⊎ PrintsCounts c first (CountsSome limit e c) json text a b
 
 stop_left : (e : Fault) (asked : Option ℕ) (bytes : List ℕ) (c : Certified) (first : WorldState) (limit : ℕ) (json : Bool) (text a b : Option (List ℕ))
-    → IsImageOf bytes c → IsOpenedWorld c (places_for asked c) first → Stops first limit e json text a b → status_of e ≡ 2
+    → IsImageOf bytes c → IsOpenedWorld c (places_for asked c) first → Stops c first limit e json text a b → status_of e ≡ 2
     → LeavesSomeCounts asked bytes limit e json text a b
 stop_left e asked bytes c first limit json text a b is opened (inl f) s = absurd (no_file e f s)
 stop_left e asked bytes c first limit json text a b is opened (inr (inl k)) s = inl k
@@ -76,17 +75,17 @@ stop_left e asked bytes c first limit json text a b is opened (inr (inr p)) s = 
 
 pub stops_left : {T : Type 0} (r : Result T Fault) (asked : Option ℕ) (bytes : List ℕ) (c : Certified) (first : WorldState) (limit : ℕ) (json : Bool)
     (text a b : Option (List ℕ)) → IsImageOf bytes c → IsOpenedWorld c (places_for asked c) first
-    → IfErr r (λ e. Stops first limit e json text a b) → IfErr r (λ e. status_of e ≡ 2 → LeavesSomeCounts asked bytes limit e json text a b)
+    → IfErr r (λ e. Stops c first limit e json text a b) → IfErr r (λ e. status_of e ≡ 2 → LeavesSomeCounts asked bytes limit e json text a b)
 stops_left (Ok t) asked bytes c first limit json text a b is opened p = tt
 stops_left (Err e) asked bytes c first limit json text a b is opened p = stop_left e asked bytes c first limit json text a b is opened p
 
 -- ---- from what was counted
 
-pub some_counts : (first last : WorldState) (limit : ℕ) (why : Unfinished) (e : Fault) (s t : Stats) (json : Bool) (text a b : Option (List ℕ))
-    → RunsTo first last → e ≡ of_halt why → s ≡ at_first first → IsCut s first limit t last why
-    → Appends a b (all_lines json 0 (lines_at last.places)) → text ≡ Some (stats_lines t last.places)
-    → PrintsCounts first (CountsSome limit e) json text a b
-some_counts first last limit why e s t json text a b to is start cut printed told = record {
+pub some_counts : (c : Certified) (first last : WorldState) (limit : ℕ) (why : Unfinished) (e : Fault) (s t : CountsState) (json : Bool) (text a b : Option (List ℕ))
+    → RunsTo first last → e ≡ of_halt why → s ≡ counts_at_first c first → IsCut s first limit t last why
+    → Appends a b (all_lines json 0 (lines_at last.places)) → text ≡ Some (stats_lines c t last.places)
+    → PrintsCounts c first (CountsSome limit e c) json text a b
+some_counts c first last limit why e s t json text a b to is start cut printed told = record {
   last = last;
   counts = t;
   runs = to;

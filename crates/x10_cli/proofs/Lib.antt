@@ -6,6 +6,7 @@ pub mod RunLemmas
 pub mod Found
 pub mod LogLemmas
 pub mod LogEventLemmas
-pub mod ShowLemmas
+pub mod WindowLemmas
+mod ShowLemmas
 pub mod ShownLemmas
 pub mod CountLemmas

@@ -1,5 +1,5 @@
 -- What is printed line after line.
-use Rattle.std.proofs.Common.{◌≡◌, ℕ, zero, suc, ◌+◌, ◌<◌, List, [], ◌∷◌, ◌++◌, Bool, length, get_or, map, Option, Some, None, sym, ap, subst, ◌∙◌, arith, append_assoc, true}
+use Rattle.std.proofs.Common.{◌≡◌, ℕ, zero, suc, ◌+◌, ◌<◌, List, [], ◌∷◌, ◌++◌, Bool, length, get_or, map, Option, Some, None, sym, ap, subst, ◌∙◌, arith, append_assoc}
 use Rattle.std.specs.Prelude.{slice_get, take, Vec}
 use Rattle.std.specs.Global.{Global}
 use Rattle.std.proofs.lemmas.List.{append-nil}
@@ -19,10 +19,11 @@ use Rattle.x10_world.specs.StandsForWorld.{WorldState, setting_of_world, StandsF
 use Rattle.x10_world.proofs.EndingLemmas.{map_length, lines_are}
 use Rattle.x10_task.specs.declared.task.Verb.{Verb}
 use Rattle.x10_task.specs.declared.task.Verb.TheVariants as verb
-use Rattle.x10_cli.specs.Answers.{HasBegun, HasRun, Prints}
+use Rattle.x10_task.specs.declared.task.Window.{Window}
+use Rattle.x10_cli.specs.Answers.{HasBegun, HasRun, Prints, PrintsShown, ShowsAsked}
 use Rattle.x10_cli.specs.Events.{HasShown}
 use Rattle.x10_cli.specs.Lines.{line_in, place_lines, all_lines, bound_line, bound_lines}
-use Rattle.x10_cli.proofs.UndoneLemmas.{shows_kept}
+use Rattle.x10_cli.proofs.UndoneLemmas.{window_kept}
 
 -- one item more of a list
 lines_more : (json : Bool) (place n : ℕ) (lines : List Line) (line : Line) → slice_get lines n ≡ Some line
@@ -161,15 +162,42 @@ has_begun c count x y opened to = record {
 
 -- ---- what was printed stays where nothing more is written
 
-all_shown : {v : Verb} {c : Certified} {places : ℕ} {a b d : Option (List ℕ)} → HasShown v c places a b → Keeps b d → HasShown v c places a d
-all_shown {v} {c} {places} {a} {b} {d} h k = record {
+shown_kept : {v : Verb} {w : Window} {c : Certified} {places : ℕ} {a b d : Option (List ℕ)} → Keeps b d → HasShown v w c places a b
+    → HasShown v w c places a d
+shown_kept k h = record {
   first = h.first;
   last = h.last;
   opened = h.opened;
-  events = h.events;
-  shows = shows_kept v true h.first h.last h.events a b d h.shows k;
-  ended = h.ended;
+  shows = record {
+    skipped = h.shows.skipped;
+    events = h.shows.events;
+    ended = h.shows.ended;
+    shows = window_kept k h.shows.shows;
+    ends = h.shows.ends;
+  };
 }
+
+all_kept : (v : Verb) (w : Window) (asked : Option ℕ) (bytes : List ℕ) (a b c : Option (List ℕ)) → Keeps b c → PrintsShown v w asked bytes a b
+    → PrintsShown v w asked bytes a c
+all_kept v w asked bytes a b c k p = (p.0, p.1, shown_kept k p.2)
+
+pub asked_kept : (v : Verb) (w : Window) (asked : Option ℕ) (bytes : List ℕ) (a b c : Option (List ℕ)) → ShowsAsked v w asked bytes a b → Keeps b c
+    → ShowsAsked v w asked bytes a c
+asked_kept verb.Trace w asked bytes a b c p k = all_kept verb.Trace w asked bytes a b c k p
+asked_kept verb.TraceVerbose w asked bytes a b c p k = all_kept verb.TraceVerbose w asked bytes a b c k p
+asked_kept verb.Draw w asked bytes a b c p k = all_kept verb.Draw w asked bytes a b c k p
+asked_kept verb.DrawPage w asked bytes a b c p k = all_kept verb.DrawPage w asked bytes a b c k p
+asked_kept verb.Run w asked bytes a b c p k = tt
+asked_kept verb.Runs w asked bytes a b c p k = tt
+asked_kept verb.Audit w asked bytes a b c p k = tt
+asked_kept verb.Asm w asked bytes a b c p k = tt
+asked_kept verb.List w asked bytes a b c p k = tt
+asked_kept verb.ListVerbose w asked bytes a b c p k = tt
+asked_kept verb.Check w asked bytes a b c p k = tt
+asked_kept verb.Verify w asked bytes a b c p k = tt
+asked_kept verb.Bounds w asked bytes a b c p k = tt
+asked_kept verb.Frame w asked bytes a b c p k = tt
+asked_kept verb.Explain w asked bytes a b c p k = tt
 
 pub prints_kept : (v : Verb) (json : Bool) (asked : Option ℕ) (bytes : List ℕ) (a b c : Option (List ℕ)) → Prints v json asked bytes a b → Keeps b c
     → Prints v json asked bytes a c
@@ -184,23 +212,10 @@ prints_kept verb.Run json asked bytes a b c p k = (p.0, p.1, p.2, p.3, Appends-k
 prints_kept verb.Audit json asked bytes a b c p k = absurd p
 prints_kept verb.Frame json asked bytes a b c p k = (p.0, p.1, Appends-kept a b c _ p.2 k)
 prints_kept verb.Explain json asked bytes a b c p k = (p.0, Appends-kept a b c _ p.1 k)
-prints_kept verb.Draw json asked bytes a b c p k = (p.0, p.1, p.2, p.3, Appends-kept a b c _ p.4 k)
-prints_kept verb.TraceVerbose json asked bytes a b c p k = (p.0, p.1, all_shown p.2 k)
-prints_kept verb.DrawPage json asked bytes a b c p k = (p.0, p.1, all_shown p.2 k)
-prints_kept verb.Trace json asked bytes a b c p k =
-    let h = p.2 in (
-      p.0,
-      p.1,
-      record {
-        first = h.first;
-        last = h.last;
-        opened = h.opened;
-        events = h.events;
-        traces = (h.traces.0, h.traces.1, Appends-kept a b c h.traces.0 h.traces.2 k);
-        runs = h.runs;
-        ended = h.ended;
-      },
-    )
+prints_kept verb.Trace json asked bytes a b c p k = (p.0, all_kept verb.Trace p.0 asked bytes a b c k p.1)
+prints_kept verb.TraceVerbose json asked bytes a b c p k = (p.0, all_kept verb.TraceVerbose p.0 asked bytes a b c k p.1)
+prints_kept verb.Draw json asked bytes a b c p k = (p.0, all_kept verb.Draw p.0 asked bytes a b c k p.1)
+prints_kept verb.DrawPage json asked bytes a b c p k = (p.0, all_kept verb.DrawPage p.0 asked bytes a b c k p.1)
 
 -- ---- a place that is there
 

@@ -1,5 +1,5 @@
 -- What a command leaves that isn't done.
-use Rattle.std.proofs.Common.{◌≡◌, ℕ, Bool, true, false, List, [], Option, Some, None, Result, Ok, Err, sym, ap, subst, ◌∙◌, inl, inr, arith, append-nil}
+use Rattle.std.proofs.Common.{◌≡◌, ℕ, Bool, true, false, List, [], length, Option, Some, None, Result, Ok, Err, sym, ap, subst, ◌∙◌, inl, inr, arith, append-nil}
 use Rattle.std.specs.Prelude.{◌⊎◌, IfErr}
 use Rattle.std.specs.Io.KnownBytes.{Appends, Keeps}
 use Rattle.std.proofs.KnownBytes.{Appends-kept, Keeps-refl, Keeps-trans}
@@ -7,8 +7,9 @@ use Rattle.x10_cli.specs.declared.fault.Fault.{Fault}
 use Rattle.x10_cli.specs.declared.fault.Fault.TheVariants as fault
 use Rattle.x10_task.specs.declared.task.Verb.{Verb}
 use Rattle.x10_task.specs.declared.task.Verb.TheVariants as verb
-use Rattle.x10_cli.specs.Answers.{LeavesRefused, LeavesRun, LeavesStopped, status_of}
-use Rattle.x10_cli.specs.Events.{HasShownSome, Shows}
+use Rattle.x10_task.specs.declared.task.Window.{Window}
+use Rattle.x10_cli.specs.Answers.{LeavesAsked, LeavesRefused, LeavesRun, LeavesShown, LeavesStopped, status_of}
+use Rattle.x10_cli.specs.Events.{HasShownSome, Shows, ShowsWindow}
 use Rattle.x10_model.specs.declared.event.Event.{Event}
 use Rattle.x10_verify.specs.Certified.{Certified}
 use Rattle.x10_world.specs.StandsForWorld.{WorldState}
@@ -44,9 +45,9 @@ none_appended (Some x) (Some y) p = p ∙ append-nil x
 
 -- ---- what is left stays where nothing more is written
 
-pub shows_kept : (v : Verb) (ended : Bool) (x y : WorldState) (events : List Event) (a b c : Option (List ℕ)) → Shows v ended x events y a b
-    → Keeps b c → Shows v ended x events y a c
-shows_kept v ended x y events a b c s k = record {
+shows_kept : (v : Verb) (ended : Bool) (n : ℕ) (x y : WorldState) (events : List Event) (a b c : Option (List ℕ)) → Shows v ended n x events y a b
+    → Keeps b c → Shows v ended n x events y a c
+shows_kept v ended n x y events a b c s k = record {
   manner = s.manner;
   is_manner = s.is_manner;
   runs = s.runs;
@@ -72,14 +73,45 @@ refused_kept verb.DrawPage a b c p k = Keeps-trans a b c p k
 refused_kept verb.Frame a b c p k = Keeps-trans a b c p k
 refused_kept verb.Explain a b c p k = Keeps-trans a b c p k
 
-some_shown : {v : Verb} {c : Certified} {places : ℕ} {a b d : Option (List ℕ)} → HasShownSome v c places a b → Keeps b d → HasShownSome v c places a d
-some_shown {v} {c} {places} {a} {b} {d} h k = record {
-  first = h.first;
-  last = h.last;
-  opened = h.opened;
-  events = h.events;
-  shows = shows_kept v false h.first h.last h.events a b d h.shows k;
+pub window_kept : {v : Verb} {w : Window} {ended : Bool} {x : WorldState} {skipped events : List Event} {y : WorldState}
+    {a b c : Option (List ℕ)} → Keeps b c → ShowsWindow v w ended x skipped events y a b → ShowsWindow v w ended x skipped events y a c
+window_kept {v} {w} {ended} {x} {skipped} {events} {y} {a} {b} {c} k s = record {
+  start = s.start;
+  skips = s.skips;
+  shows = shows_kept v ended (length skipped) s.start y events a b c s.shows k;
+  window = s.window;
 }
+
+some_shown : {v : Verb} {w : Window} {c : Certified} {places : ℕ} {a b d : Option (List ℕ)} → Keeps b d → HasShownSome v w c places a b
+    → HasShownSome v w c places a d
+some_shown k h = record {
+  first = h.first;
+  opened = h.opened;
+  shows = record { skipped = h.shows.skipped; events = h.shows.events; last = h.shows.last; shows = window_kept k h.shows.shows };
+}
+
+left_kept : (v : Verb) (w : Window) (asked : Option ℕ) (bytes : List ℕ) (a b c : Option (List ℕ)) → Keeps b c → LeavesShown v w asked bytes a b
+    → LeavesShown v w asked bytes a c
+left_kept v w asked bytes a b c k (inl p) = inl (Keeps-trans a b c p k)
+left_kept v w asked bytes a b c k (inr p) = inr (p.0, p.1, some_shown k p.2)
+
+pub left_asked_kept : (v : Verb) (w : Window) (asked : Option ℕ) (bytes : List ℕ) (a b c : Option (List ℕ)) → LeavesAsked v w asked bytes a b
+    → Keeps b c → LeavesAsked v w asked bytes a c
+left_asked_kept verb.Trace w asked bytes a b c p k = left_kept verb.Trace w asked bytes a b c k p
+left_asked_kept verb.TraceVerbose w asked bytes a b c p k = left_kept verb.TraceVerbose w asked bytes a b c k p
+left_asked_kept verb.Draw w asked bytes a b c p k = left_kept verb.Draw w asked bytes a b c k p
+left_asked_kept verb.DrawPage w asked bytes a b c p k = left_kept verb.DrawPage w asked bytes a b c k p
+left_asked_kept verb.Run w asked bytes a b c p k = tt
+left_asked_kept verb.Runs w asked bytes a b c p k = tt
+left_asked_kept verb.Audit w asked bytes a b c p k = tt
+left_asked_kept verb.Asm w asked bytes a b c p k = tt
+left_asked_kept verb.List w asked bytes a b c p k = tt
+left_asked_kept verb.ListVerbose w asked bytes a b c p k = tt
+left_asked_kept verb.Check w asked bytes a b c p k = tt
+left_asked_kept verb.Verify w asked bytes a b c p k = tt
+left_asked_kept verb.Bounds w asked bytes a b c p k = tt
+left_asked_kept verb.Frame w asked bytes a b c p k = tt
+left_asked_kept verb.Explain w asked bytes a b c p k = tt
 
 run_kept : (json : Bool) (threads : Bool) (asked : Option ℕ) (bytes : List ℕ) (a b c : Option (List ℕ)) → LeavesRun json threads asked bytes a b
     → Keeps b c → LeavesRun json threads asked bytes a c
@@ -90,25 +122,10 @@ pub stopped_kept : (v : Verb) (json : Bool) (threads : Bool) (asked : Option ℕ
     → LeavesStopped v json threads asked bytes a b → Keeps b c → LeavesStopped v json threads asked bytes a c
 stopped_kept verb.Run json threads asked bytes a b c (inl p) k = inl (Keeps-trans a b c p k)
 stopped_kept verb.Run json threads asked bytes a b c (inr p) k = inr (run_kept json threads asked bytes a b c p k)
-stopped_kept verb.Trace json threads asked bytes a b c (inl p) k = inl (Keeps-trans a b c p k)
-stopped_kept verb.Trace json threads asked bytes a b c (inr p) k = inr (
-  p.0,
-  p.1,
-  record {
-    first = p.2.first;
-    last = p.2.last;
-    opened = p.2.opened;
-    events = p.2.events;
-    traces = (p.2.traces.0, p.2.traces.1, Appends-kept a b c p.2.traces.0 p.2.traces.2 k);
-    runs = p.2.runs;
-  },
-)
-stopped_kept verb.Draw json threads asked bytes a b c (inl p) k = inl (Keeps-trans a b c p k)
-stopped_kept verb.Draw json threads asked bytes a b c (inr p) k = inr (p.0, p.1, p.2, p.3, Appends-kept a b c p.1 p.4 k)
-stopped_kept verb.TraceVerbose json threads asked bytes a b c (inl p) k = inl (Keeps-trans a b c p k)
-stopped_kept verb.TraceVerbose json threads asked bytes a b c (inr p) k = inr (p.0, p.1, some_shown p.2 k)
-stopped_kept verb.DrawPage json threads asked bytes a b c (inl p) k = inl (Keeps-trans a b c p k)
-stopped_kept verb.DrawPage json threads asked bytes a b c (inr p) k = inr (p.0, p.1, some_shown p.2 k)
+stopped_kept verb.Trace json threads asked bytes a b c p k = (p.0, left_kept verb.Trace p.0 asked bytes a b c k p.1)
+stopped_kept verb.TraceVerbose json threads asked bytes a b c p k = (p.0, left_kept verb.TraceVerbose p.0 asked bytes a b c k p.1)
+stopped_kept verb.Draw json threads asked bytes a b c p k = (p.0, left_kept verb.Draw p.0 asked bytes a b c k p.1)
+stopped_kept verb.DrawPage json threads asked bytes a b c p k = (p.0, left_kept verb.DrawPage p.0 asked bytes a b c k p.1)
 stopped_kept verb.Runs json threads asked bytes a b c p k = Keeps-trans a b c p k
 stopped_kept verb.Audit json threads asked bytes a b c p k = Keeps-trans a b c p k
 stopped_kept verb.Asm json threads asked bytes a b c p k = Keeps-trans a b c p k

@@ -32,7 +32,7 @@ use Rattle.x10_world.specs.declared.rounds.Unfinished.TheVariants as halt
 use Rattle.x10_findings.specs.Findings.{FindingsState}
 use Rattle.x10_frame.specs.declared.fault.FrameFault.{FrameFault}
 use Rattle.x10_frame.specs.declared.fault.FrameFault.TheVariants as frame
-use Rattle.x10_cli.specs.Events.{HasDrawn, HasDrawnSome, HasShown, HasShownSome, HasTraced, HasTracedSome}
+use Rattle.x10_cli.specs.Events.{HasShown, HasShownSome}
 use Rattle.x10_cli.specs.Lines.{bound_lines, all_lines}
 use Rattle.x10_cli.specs.Runs.{FoundIn, findings_text}
 use Rattle.x10_cli.specs.Frames.{IsFrame, TellsFrame, IsFrameFault}
@@ -58,6 +58,7 @@ use Rattle.x10_log.specs.declared.fault.LogCause.TheVariants as log
 use Rattle.x10_log.specs.declared.fault.LogFault.{LogFault}
 use Rattle.x10_task.specs.declared.task.Verb.{Verb}
 use Rattle.x10_task.specs.declared.task.Verb.TheVariants as verb
+use Rattle.x10_task.specs.declared.task.Window.{Window}
 use Rattle.x10_cli.specs.declared.fault.Fault.{Fault}
 use Rattle.x10_cli.specs.declared.fault.Fault.TheVariants as fault
 
@@ -140,6 +141,19 @@ PrintsRuns asked limit runs bytes old new =
     (c : Certified) × (s : FindingsState) × IsImageOf bytes c
     × FoundIn c (places_for asked c) limit runs s × Appends old new (findings_text runs s)
 
+-- what a command shows of a run of the module at as many places as were asked for, of the events that a window has, was appended
+abbrev pub PrintsShown : Verb → Window → Option ℕ → List ℕ → Option (List ℕ) → Option (List ℕ) → Type 0
+PrintsShown v w asked bytes old new = (c : Certified) × IsImageOf bytes c
+    × HasShown v w c (places_for asked c) old new
+
+-- the same, where a command shows a run's events
+abbrev pub ShowsAsked : Verb → Window → Option ℕ → List ℕ → Option (List ℕ) → Option (List ℕ) → Type 0
+ShowsAsked verb.Trace w asked bytes old new = PrintsShown verb.Trace w asked bytes old new
+ShowsAsked verb.TraceVerbose w asked bytes old new = PrintsShown verb.TraceVerbose w asked bytes old new
+ShowsAsked verb.Draw w asked bytes old new = PrintsShown verb.Draw w asked bytes old new
+ShowsAsked verb.DrawPage w asked bytes old new = PrintsShown verb.DrawPage w asked bytes old new
+ShowsAsked _ w asked bytes old new = Unit {0}
+
 -- the canonical listing of a module; of what JSON has of it nothing is said
 abbrev pub IsListing : Bool → Module → List ℕ → Type 0
 IsListing false m text = text ≡ listing m
@@ -164,15 +178,14 @@ Prints verb.Bounds json asked bytes old new = (m : Module) × (bounds : List ℕ
     × (bounds_of m ≡ Ok bounds) × Appends old new (bound_lines 0 bounds)
 Prints verb.Runs json asked bytes old new = (limit runs : ℕ)
     × PrintsRuns asked limit runs bytes old new
-Prints verb.Trace json asked bytes old new = (c : Certified) × IsImageOf bytes c
-    × HasTraced c (places_for asked c) old new
-Prints verb.TraceVerbose json asked bytes old new = (c : Certified) × IsImageOf bytes c
-    × HasShown verb.TraceVerbose c (places_for asked c) old new
-Prints verb.Draw json asked bytes old new = (c : Certified) × (picture : List ℕ) × IsImageOf bytes c
-    × HasDrawn c (places_for asked c) picture
-    × Appends old new picture
-Prints verb.DrawPage json asked bytes old new = (c : Certified) × IsImageOf bytes c
-    × HasShown verb.DrawPage c (places_for asked c) old new
+Prints verb.Trace json asked bytes old new = (w : Window)
+    × PrintsShown verb.Trace w asked bytes old new
+Prints verb.TraceVerbose json asked bytes old new = (w : Window)
+    × PrintsShown verb.TraceVerbose w asked bytes old new
+Prints verb.Draw json asked bytes old new = (w : Window)
+    × PrintsShown verb.Draw w asked bytes old new
+Prints verb.DrawPage json asked bytes old new = (w : Window)
+    × PrintsShown verb.DrawPage w asked bytes old new
 Prints verb.Audit json asked bytes old new = ⊥
 Prints verb.Frame json asked bytes old new = (text : List ℕ) × TellsFrame asked bytes text
     × Appends old new text
@@ -208,22 +221,32 @@ LeavesRun json true asked bytes old new = (c : Certified) × (log : List Turn)
     × (outputs : List (List machine.Line)) × IsImageOf bytes c
     × AreLinesBy (places_for asked c) log outputs × Appends old new (all_lines json 0 outputs)
 
+-- what a command left that shows the events of a run which stopped: nothing, or what it shows of those until then
+abbrev pub LeavesShown : Verb → Window → Option ℕ → List ℕ → Option (List ℕ) → Option (List ℕ) → Type 0
+LeavesShown v w asked bytes old new = Keeps old new
+    ⊎ ((c : Certified) × IsImageOf bytes c × HasShownSome v w c (places_for asked c) old new)
+
+-- the same, where a command shows a run's events
+abbrev pub LeavesAsked : Verb → Window → Option ℕ → List ℕ → Option (List ℕ) → Option (List ℕ) → Type 0
+LeavesAsked verb.Trace w asked bytes old new = LeavesShown verb.Trace w asked bytes old new
+LeavesAsked verb.TraceVerbose w asked bytes old new = LeavesShown verb.TraceVerbose w asked bytes old new
+LeavesAsked verb.Draw w asked bytes old new = LeavesShown verb.Draw w asked bytes old new
+LeavesAsked verb.DrawPage w asked bytes old new = LeavesShown verb.DrawPage w asked bytes old new
+LeavesAsked _ w asked bytes old new = Unit {0}
+
 -- what a command that stopped appends: nothing, or what a run left until then; a check a report, which may be empty
 abbrev pub LeavesStopped : Verb → Bool → Bool → Option ℕ → List ℕ → Option (List ℕ)
     → Option (List ℕ) → Type 0
 LeavesStopped verb.Run json threads asked bytes old new = Keeps old new
     ⊎ LeavesRun json threads asked bytes old new
-LeavesStopped verb.Trace json threads asked bytes old new = Keeps old new
-    ⊎ ((c : Certified) × IsImageOf bytes c × HasTracedSome c (places_for asked c) old new)
-LeavesStopped verb.TraceVerbose json threads asked bytes old new = Keeps old new
-    ⊎ ((c : Certified) × IsImageOf bytes c
-    × HasShownSome verb.TraceVerbose c (places_for asked c) old new)
-LeavesStopped verb.Draw json threads asked bytes old new = Keeps old new
-    ⊎ ((c : Certified) × (picture : List ℕ) × IsImageOf bytes c
-    × HasDrawnSome c (places_for asked c) picture × Appends old new picture)
-LeavesStopped verb.DrawPage json threads asked bytes old new = Keeps old new
-    ⊎ ((c : Certified) × IsImageOf bytes c
-    × HasShownSome verb.DrawPage c (places_for asked c) old new)
+LeavesStopped verb.Trace json threads asked bytes old new = (w : Window)
+    × LeavesShown verb.Trace w asked bytes old new
+LeavesStopped verb.TraceVerbose json threads asked bytes old new = (w : Window)
+    × LeavesShown verb.TraceVerbose w asked bytes old new
+LeavesStopped verb.Draw json threads asked bytes old new = (w : Window)
+    × LeavesShown verb.Draw w asked bytes old new
+LeavesStopped verb.DrawPage json threads asked bytes old new = (w : Window)
+    × LeavesShown verb.DrawPage w asked bytes old new
 LeavesStopped verb.Check json threads asked bytes old new = (text : List ℕ) × Appends old new text
 LeavesStopped _ json threads asked bytes old new = Keeps old new
 

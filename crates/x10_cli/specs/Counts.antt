@@ -7,9 +7,8 @@ use Rattle.x10_world.specs.Endings.{IsImageOf, lines_at}
 use Rattle.x10_world.specs.Opening.{IsOpenedWorld}
 use Rattle.x10_world.specs.Rounds.{NoneIsLeft, RunsTo}
 use Rattle.x10_world.specs.StandsForWorld.{WorldState}
-use Rattle.x10_stats.specs.declared.stats.Stats.{Stats}
+use Rattle.x10_stats.specs.Counts.{CountsState, HasCounted, IsCut, counts_at_first}
 use Rattle.x10_stats.specs.Lines.{stats_lines}
-use Rattle.x10_stats.specs.Stats.{HasCounted, IsCut, at_first}
 use Rattle.x10_cli.specs.declared.fault.Fault.{Fault}
 use Rattle.x10_cli.specs.declared.fault.Fault.TheVariants as fault
 use Rattle.x10_cli.specs.Answers.{of_halt, places_for}
@@ -18,34 +17,34 @@ use Rattle.x10_cli.specs.Telling.{SaysFault}
 
 -- how a run went from its first state: what was counted, and its last state
 abbrev pub Course : Type 1
-Course = WorldState → Stats → WorldState → Type 0
+Course = WorldState → CountsState → WorldState → Type 0
 
--- at most so many events were made and counted, and no activity lives
-abbrev pub CountsAll : ℕ → Course
-CountsAll limit x s y = HasCounted (at_first x) x limit s y × NoneIsLeft y
+-- at most so many events of a module were made and counted, and no activity lives
+abbrev pub CountsAll : ℕ → Certified → Course
+CountsAll limit c x s y = HasCounted (counts_at_first c x) x limit s y × NoneIsLeft y
 
 -- the fault tells why no more of them were made
-abbrev pub CountsSome : ℕ → Fault → Course
-CountsSome limit f x s y = (why : Unfinished) × (f ≡ of_halt why)
-    × IsCut (at_first x) x limit s y why
+abbrev pub CountsSome : ℕ → Fault → Certified → Course
+CountsSome limit f c x s y = (why : Unfinished) × (f ≡ of_halt why)
+    × IsCut (counts_at_first c x) x limit s y why
 
--- a run from a state of a world went so, the lines of its places were appended, and the text tells what was counted and what is
--- in the heaps of its last state
-pub record PrintsCounts (first : WorldState) (Went : Course) (json : Bool)
+-- a run of a module from a state of a world went so, the lines of its places were appended, and the text tells what was counted,
+-- beside the bounds of its functions, and what is in the heaps of its last state
+pub record PrintsCounts (c : Certified) (first : WorldState) (Went : Course) (json : Bool)
     (text old new : Option (List ℕ)) : Type 0 where
   pub last : WorldState
-  pub counts : Stats
+  pub counts : CountsState
   pub runs : RunsTo first last
   pub went : Went first counts last
   pub printed : Appends old new (all_lines json 0 (lines_at last.places))
-  pub told : text ≡ Some (stats_lines counts last.places)
+  pub told : text ≡ Some (stats_lines c counts last.places)
 
 -- a run of the module from its beginning
-abbrev pub LeavesCounts : Option ℕ → List ℕ → Course → Bool → Option (List ℕ) → Option (List ℕ)
-    → Option (List ℕ) → Type 0
+abbrev pub LeavesCounts : Option ℕ → List ℕ → (Certified → Course) → Bool → Option (List ℕ)
+    → Option (List ℕ) → Option (List ℕ) → Type 0
 LeavesCounts asked bytes Went json text old new = (c : Certified) × (first : WorldState)
     × IsImageOf bytes c × IsOpenedWorld c (places_for asked c) first
-    × PrintsCounts first Went json text old new
+    × PrintsCounts c first (Went c) json text old new
 
 -- what a run that stopped leaves: nothing, where memory is lacking; or the lines and the counts of its events until then
 abbrev pub LeavesSomeCounts : Option ℕ → List ℕ → ℕ → Fault → Bool → Option (List ℕ)

@@ -1,5 +1,5 @@
 -- What is shown of a run's events, one after another.
-use Rattle.std.specs.Prelude.{◌≡◌, ◌≢◌, Bool, true, false, ℕ, List, [], ◌∷◌, ◌++◌, length, Option}
+use Rattle.std.specs.Prelude.{◌≡◌, ◌≢◌, Bool, false, ℕ, ◌+◌, List, [], ◌∷◌, ◌++◌, length, Option}
 use Rattle.std.specs.Io.KnownBytes.{Appends}
 use Rattle.x10_model.specs.declared.event.Event.{Event}
 use Rattle.x10_model.specs.Modules.{Module}
@@ -9,7 +9,7 @@ use Rattle.x10_verify.specs.Flows.{FlowFacts}
 use Rattle.x10_world.specs.declared.done.Done.{Done}
 use Rattle.x10_world.specs.Happenings.{HasDone}
 use Rattle.x10_world.specs.Opening.{IsOpenedWorld}
-use Rattle.x10_world.specs.Rounds.{NoneIsLeft, RunsTo}
+use Rattle.x10_world.specs.Rounds.{NoneIsLeft}
 use Rattle.x10_world.specs.Runs.{Reaches}
 use Rattle.x10_world.specs.StandsForWorld.{WorldState, KeepsSetting, MakesEvent, StandsForWorld}
 use Rattle.x10_draw.specs.Pages.{IsPage}
@@ -17,9 +17,11 @@ use Rattle.x10_moments.specs.Moments.{AreShown, IsMoment, Shown, first_moment}
 use Rattle.x10_moments.specs.Pages.{page_end, page_front}
 use Rattle.x10_notes.specs.Notes.{AreNotes}
 use Rattle.x10_states.specs.Kinds.{AreLeast}
-use Rattle.x10_trace.specs.Trace.{Traced, trace_lines}
+use Rattle.x10_trace.specs.Trace.{trace_lines}
 use Rattle.x10_task.specs.declared.task.Verb.{Verb}
 use Rattle.x10_task.specs.declared.task.Verb.TheVariants as verb
+use Rattle.x10_task.specs.declared.task.Window.{Window}
+use Rattle.x10_cli.specs.Windows.{Ends, IsWindow}
 
 -- these events lead on from one state of a world to another, and are a run from each world of the machine that the first one
 -- stands for: none goes wrong, and no activity takes more steps than its bound
@@ -27,48 +29,19 @@ pub record RunsBy (x : WorldState) (events : List Event) (y : WorldState) : Type
   pub kept : KeepsSetting x y
   pub runs : (w : World) → StandsForWorld x w → Reaches x w events y
 
--- ---- the lines of a run, and its picture
+-- the same, one after another, with what each did: it is an event of every world of the machine that the state before it stands
+-- for
+pub data AreMade : WorldState → List Event → WorldState → Type 0 where
+  none_made : (x : WorldState) → AreMade x [] x
+  more_made : (x y z : WorldState) (events : List Event) (event : Event) (did : Done)
+      → AreMade x events y → HasDone y event did z
+      → ((w : World) → StandsForWorld y w → MakesEvent y w event z)
+      → AreMade x (events ++ event ∷ []) z
 
--- the lines of events that led from one state of a world to another were appended
-abbrev pub Traces : WorldState → List Event → WorldState → Option (List ℕ) → Option (List ℕ)
-    → Type 0
-Traces x events y old new = (text : List ℕ) × Traced x events text y × Appends old new text
-
--- the lines of all events of a run of the module, from its beginning to a world in which no activity lives
-pub record HasTraced (c : Certified) (places : ℕ) (old new : Option (List ℕ)) : Type 0 where
-  pub first : WorldState
-  pub last : WorldState
-  pub opened : IsOpenedWorld c places first
-  pub events : List Event
-  pub traces : Traces first events last old new
-  pub runs : RunsTo first last
-  pub ended : NoneIsLeft last
-
--- the lines of the first events of a run of the module, from its beginning
-pub record HasTracedSome (c : Certified) (places : ℕ) (old new : Option (List ℕ)) : Type 0 where
-  pub first : WorldState
-  pub last : WorldState
-  pub opened : IsOpenedWorld c places first
-  pub events : List Event
-  pub traces : Traces first events last old new
-  pub runs : RunsTo first last
-
--- the picture of a run of the module, from its beginning to a world in which no activity lives
-pub record HasDrawn (c : Certified) (places : ℕ) (picture : List ℕ) : Type 0 where
-  pub first : WorldState
-  pub last : WorldState
-  pub opened : IsOpenedWorld c places first
-  pub runs : RunsTo first last
-  pub ended : NoneIsLeft last
-  pub page : IsPage picture
-
--- the picture of a run of the module, as far as it went
-pub record HasDrawnSome (c : Certified) (places : ℕ) (picture : List ℕ) : Type 0 where
-  pub first : WorldState
-  pub last : WorldState
-  pub opened : IsOpenedWorld c places first
-  pub runs : RunsTo first last
-  pub page : IsPage picture
+-- these events were made, and none was shown
+pub record Skips (x : WorldState) (events : List Event) (y : WorldState) : Type 0 where
+  pub runs : RunsBy x events y
+  pub made : AreMade x events y
 
 -- ---- in which manner events are shown
 
@@ -109,12 +82,13 @@ pub data AreTold (manner : Manner) : WorldState → List Event → List ℕ → 
       → IsTold manner y event did z told
       → AreTold manner x (events ++ event ∷ []) (text ++ told) z
 
--- what stands before that: of a page how it begins, and what the places show before the first event
-abbrev pub IsFront : Manner → WorldState → List ℕ → Type 0
-IsFront (ByMoments program kinds) x text = (shown : List Shown)
+-- what stands before that, where so many events weren't shown: of a page how it begins, and what the places show before the first
+-- event that is
+abbrev pub IsFront : Manner → ℕ → WorldState → List ℕ → Type 0
+IsFront (ByMoments program kinds) before x text = (shown : List Shown)
     × AreShown program kinds x.places shown
-    × (text ≡ page_front program (length x.places) ++ first_moment shown)
-IsFront _ x text = text ≡ []
+    × (text ≡ page_front program (length x.places) before x.flights ++ first_moment shown)
+IsFront _ before x text = text ≡ []
 
 -- what stands behind it: the picture, or how the page ends, which says whether the run has ended
 abbrev pub IsEnd : Manner → Bool → List ℕ → Type 0
@@ -122,13 +96,13 @@ IsEnd ByPicture ended text = IsPage text
 IsEnd (ByMoments program kinds) ended text = text ≡ page_end ended
 IsEnd _ ended text = text ≡ []
 
--- what is shown of these events, from a state of a world on that they led to another
-pub record IsShown (manner : Manner) (ended : Bool) (x : WorldState) (events : List Event)
-    (y : WorldState) (text : List ℕ) : Type 0 where
+-- what is shown of these events, behind so many others, from a state of a world on that they led to another
+pub record IsShown (manner : Manner) (ended : Bool) (before : ℕ) (x : WorldState)
+    (events : List Event) (y : WorldState) (text : List ℕ) : Type 0 where
   pub front : List ℕ
   pub told : List ℕ
   pub end : List ℕ
-  pub begins : IsFront manner x front
+  pub begins : IsFront manner before x front
   pub tells : AreTold manner x events told y
   pub ends : IsEnd manner ended end
   pub text_is : text ≡ front ++ (told ++ end)
@@ -151,32 +125,54 @@ IsMannerOf verb.DrawPage program manner = (kinds : List FlowFacts) × AreLeast p
     × (manner ≡ ByMoments program kinds)
 IsMannerOf _ program manner = manner ≡ ByLines
 
--- these events led on from one state of a world to another, and what a command shows of them was appended; a page says whether
--- the run has ended
-pub record Shows (v : Verb) (ended : Bool) (x : WorldState) (events : List Event) (y : WorldState)
-    (old new : Option (List ℕ)) : Type 0 where
+-- these events led on from one state of a world to another, behind so many others, and what a command shows of them was appended;
+-- a page says whether the run has ended
+pub record Shows (v : Verb) (ended : Bool) (before : ℕ) (x : WorldState) (events : List Event)
+    (y : WorldState) (old new : Option (List ℕ)) : Type 0 where
   pub manner : Manner
   pub is_manner : IsMannerOf v x.program manner
   pub runs : RunsBy x events y
   pub text : List ℕ
-  pub shown : IsShown manner ended x events y text
+  pub shown : IsShown manner ended before x events y text
   pub printed : Appends old new text
 
--- the same of a run of the module, from its beginning to a world in which no activity lives
-pub record HasShown (v : Verb) (c : Certified) (places : ℕ) (old new : Option (List ℕ))
-    : Type 0 where
-  pub first : WorldState
-  pub last : WorldState
-  pub opened : IsOpenedWorld c places first
-  pub events : List Event
-  pub shows : Shows v true first events last old new
-  pub ended : NoneIsLeft last
+-- ---- the events that a window has
 
--- the same of a run of the module from its beginning, as far as it went
-pub record HasShownSome (v : Verb) (c : Certified) (places : ℕ) (old new : Option (List ℕ))
+-- some events were made and not shown, and what a command shows of those behind them was appended, as a window has them
+pub record ShowsWindow (v : Verb) (w : Window) (ended : Bool) (x : WorldState)
+    (skipped events : List Event) (y : WorldState) (old new : Option (List ℕ)) : Type 0 where
+  pub start : WorldState
+  pub skips : Skips x skipped start
+  pub shows : Shows v ended (length skipped) start events y old new
+  pub window : IsWindow w (length skipped) (length events)
+
+-- the same of a run, up to its end, in which no activity lives, or to the last event that the window has
+pub record ShowsRun (v : Verb) (w : Window) (x y : WorldState) (old new : Option (List ℕ))
     : Type 0 where
+  pub skipped : List Event
+  pub events : List Event
+  pub ended : Bool
+  pub shows : ShowsWindow v w ended x skipped events y old new
+  pub ends : Ends ended w (length skipped + length events) (NoneIsLeft y)
+
+-- the same of a run, as far as it went
+pub record ShowsStopped (v : Verb) (w : Window) (x : WorldState) (old new : Option (List ℕ))
+    : Type 0 where
+  pub skipped : List Event
+  pub events : List Event
+  pub last : WorldState
+  pub shows : ShowsWindow v w false x skipped events last old new
+
+-- what a command shows of a run of the module, from its beginning
+pub record HasShown (v : Verb) (w : Window) (c : Certified) (places : ℕ)
+    (old new : Option (List ℕ)) : Type 0 where
   pub first : WorldState
   pub last : WorldState
   pub opened : IsOpenedWorld c places first
-  pub events : List Event
-  pub shows : Shows v false first events last old new
+  pub shows : ShowsRun v w first last old new
+
+pub record HasShownSome (v : Verb) (w : Window) (c : Certified) (places : ℕ)
+    (old new : Option (List ℕ)) : Type 0 where
+  pub first : WorldState
+  pub opened : IsOpenedWorld c places first
+  pub shows : ShowsStopped v w first old new

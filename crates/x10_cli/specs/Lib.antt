@@ -1,6 +1,7 @@
 pub mod Lines
 pub mod Runs
 pub mod Frames
+pub mod Windows
 pub mod Events
 pub mod Answers
 pub mod Telling

@@ -1,12 +1,10 @@
--- What is shown of the log of a run with threads: the lines of its events, and its picture.
-use Rattle.std.specs.Prelude.{◌≡◌, ◌⊎◌, ℕ, ◌+◌, List, [], ◌∷◌, ◌++◌, Option, drop, map, slice_get, None, Some, Bool, true, false}
-use Rattle.std.specs.Io.KnownBytes.{Appends}
+-- What is shown of the log of a run with threads.
+use Rattle.std.specs.Prelude.{◌≡◌, ◌⊎◌, ℕ, ◌+◌, List, [], ◌∷◌, ◌++◌, length, Option, drop, map, slice_get, None, Some, Bool, false}
 use Rattle.x10_kinds.specs.declared.stop.Stop.{Stop}
 use Rattle.x10_model.specs.declared.event.Event.{Event}
 use Rattle.x10_model.specs.declared.event.Event.TheVariants.{Step, Deliver}
 use Rattle.x10_model.specs.Places as machine
 use Rattle.x10_verify.specs.Certified.{Certified}
-use Rattle.x10_draw.specs.Pages.{IsPage}
 use Rattle.x10_hall.specs.declared.turn.Turn.{Turn}
 use Rattle.x10_world.specs.Endings.{IsImageOf}
 use Rattle.x10_world.specs.Opening.{IsOpenedWorld}
@@ -14,13 +12,14 @@ use Rattle.x10_world.specs.StandsForWorld.{WorldState}
 use Rattle.x10_workers.specs.Audits.{IsRefusedAt}
 use Rattle.x10_workers.specs.Plays.{IsPlayed, events_in}
 use Rattle.x10_task.specs.declared.task.Verb.{Verb}
-use Rattle.x10_task.specs.declared.task.Verb.TheVariants as verb
+use Rattle.x10_task.specs.declared.task.Window.{Window}
 use Rattle.x10_cli.specs.declared.fault.Fault.{Fault}
 use Rattle.x10_cli.specs.declared.fault.Fault.TheVariants as fault
 use Rattle.x10_cli.specs.Answers.{of_stop, status_of}
-use Rattle.x10_cli.specs.Events.{RunsBy, Shows, Traces}
+use Rattle.x10_cli.specs.Events.{RunsBy, ShowsWindow}
 use Rattle.x10_cli.specs.Logs.{IsAuditDue, IsLogText}
 use Rattle.x10_cli.specs.Telling.{SaysFault}
+use Rattle.x10_cli.specs.Windows.{Ends}
 
 -- the events of a turn that are left, where so many frames were taken in and so many steps made
 abbrev pub left_of_turn : Turn → ℕ → ℕ → List Event
@@ -56,60 +55,38 @@ pub record HoldsOfLog (bytes text : List ℕ) (P : WorldState → List Event →
   pub opened : IsOpenedWorld c places first
   pub holds : P first (events_in turns)
 
--- the lines of the first of these events were appended
-pub record TracesFirst (x : WorldState) (events : List Event)
+-- what a command shows of these events, from a state of a world on, was appended, as a window has them: up to the last one of all,
+-- or of the window
+pub record ShowsAll (v : Verb) (w : Window) (x : WorldState) (all : List Event)
     (old new : Option (List ℕ)) : Type 0 where
-  pub made : List Event
+  pub skipped : List Event
+  pub events : List Event
   pub rest : List Event
-  pub all : made ++ rest ≡ events
+  pub split : skipped ++ (events ++ rest) ≡ all
   pub last : WorldState
-  pub traces : Traces x made last old new
-
--- the first of these events do
-pub record RunsFirst (x : WorldState) (events : List Event) : Type 0 where
-  pub made : List Event
-  pub rest : List Event
-  pub all : made ++ rest ≡ events
-  pub last : WorldState
-  pub runs : RunsBy x made last
-
--- what a command shows of the first of these events was appended
-pub record ShowsSome (v : Verb) (x : WorldState) (events : List Event)
-    (old new : Option (List ℕ)) : Type 0 where
-  pub made : List Event
-  pub rest : List Event
-  pub all : made ++ rest ≡ events
-  pub last : WorldState
-  pub shows : Shows v false x made last old new
-
--- a picture was appended
-abbrev pub AppendsPicture : Option (List ℕ) → Option (List ℕ) → Type 0
-AppendsPicture old new = (picture : List ℕ) × IsPage picture × Appends old new picture
-
--- What a command shows of these events, from a state of a world on: for a picture they led it on, and the picture of that was
--- appended; for lines with notes, and for a page that says that the run has ended, these were; else the lines of each were.
-abbrev pub ShowsAll : Verb → WorldState → List Event → (old new : Option (List ℕ)) → Type 0
-ShowsAll verb.Draw x events old new = (y : WorldState) × RunsBy x events y × AppendsPicture old new
-ShowsAll verb.TraceVerbose x events old new = (y : WorldState)
-    × Shows verb.TraceVerbose true x events y old new
-ShowsAll verb.DrawPage x events old new = (y : WorldState)
-    × Shows verb.DrawPage true x events y old new
-ShowsAll _ x events old new = (y : WorldState) × Traces x events y old new
+  pub ended : Bool
+  pub shows : ShowsWindow v w ended x skipped events last old new
+  pub ends : Ends ended w (length skipped + length events) (rest ≡ [])
 
 -- the same of the first of these events, and a page says that the run has stopped
-abbrev pub ShowsFirst : Verb → WorldState → List Event → (old new : Option (List ℕ)) → Type 0
-ShowsFirst verb.Draw x events old new = RunsFirst x events × AppendsPicture old new
-ShowsFirst verb.TraceVerbose x events old new = ShowsSome verb.TraceVerbose x events old new
-ShowsFirst verb.DrawPage x events old new = ShowsSome verb.DrawPage x events old new
-ShowsFirst _ x events old new = TracesFirst x events old new
+pub record ShowsFirst (v : Verb) (w : Window) (x : WorldState) (all : List Event)
+    (old new : Option (List ℕ)) : Type 0 where
+  pub skipped : List Event
+  pub events : List Event
+  pub rest : List Event
+  pub split : skipped ++ (events ++ rest) ≡ all
+  pub last : WorldState
+  pub shows : ShowsWindow v w false x skipped events last old new
 
 -- the same of all events of a log, or of its first ones
-abbrev pub HasShownLog : Verb → (bytes text : List ℕ) → (old new : Option (List ℕ)) → Type 0
-HasShownLog v bytes text old new = HoldsOfLog bytes text (λ x events. ShowsAll v x events old new)
+abbrev pub HasShownLog : Verb → Window → (bytes text : List ℕ) → (old new : Option (List ℕ)) → Type 0
+HasShownLog v w bytes text old new =
+    HoldsOfLog bytes text (λ x events. ShowsAll v w x events old new)
 
-abbrev pub HasShownSomeOfLog : Verb → (bytes text : List ℕ) → (old new : Option (List ℕ)) → Type 0
-HasShownSomeOfLog v bytes text old new =
-    HoldsOfLog bytes text (λ x events. ShowsFirst v x events old new)
+abbrev pub HasShownSomeOfLog : Verb → Window → (bytes text : List ℕ) → (old new : Option (List ℕ))
+    → Type 0
+HasShownSomeOfLog v w bytes text old new =
+    HoldsOfLog bytes text (λ x events. ShowsFirst v w x events old new)
 
 -- an event was refused in a state of a world, and the fault tells why
 abbrev pub IsStoppedAt : WorldState → Event → Fault → Type 0

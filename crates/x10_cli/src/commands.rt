@@ -9,7 +9,7 @@ ghost use Rattle.x10_world.specs.Rounds.{NoneIsLeft, RunsTo};
 ghost use Rattle.x10_cli.specs.Lines.{all_lines};
 ghost use Rattle.x10_task.specs.declared.task.Verb.TheVariants as verb;
 ghost use Rattle.x10_cli.specs.declared.fault.Fault.TheVariants as fault;
-ghost use Rattle.x10_cli.specs.Answers.{IsImage, IsListing, IsVerifiedImage, IsVerifying, IsOfModule, CanBeDone, IsStatus, IsDue, Prints, PrintsRuns, LeavesRefused, LeavesStopped, places_for, status_of};
+ghost use Rattle.x10_cli.specs.Answers.{IsImage, IsListing, IsVerifiedImage, IsVerifying, IsOfModule, CanBeDone, IsStatus, IsDue, Prints, PrintsRuns, LeavesAsked, LeavesRefused, LeavesStopped, ShowsAsked, places_for, status_of};
 ghost use Rattle.x10_cli.specs.Telling.{SaysFault, Tells, fault_line};
 
 use crate::cause::print_section;
@@ -61,12 +61,16 @@ pub fn execute<R: Threads + Wait + Sync, O: Write, E: Write>(
     ensures counted { result ≡ 0 → task.now.verb ≡ verb.Runs
         → PrintsRuns task.now.places task.now.limit task.now.seeds bytes.now (O.contents out.old)
         (O.contents out.new) }
+    ensures shown { result ≡ 0 → ShowsAsked task.now.verb task.now.window task.now.places bytes.now
+        (O.contents out.old) (O.contents out.new) }
     ensures verified { result ≡ 0 → IsVerifying task.now.verb → IsVerifiedImage bytes.now }
     ensures refused { result ≡ 1 → CanBeDone task.now.verb task.now.places bytes.now → ⊥ }
     ensures left_refused { result ≡ 1 → LeavesRefused task.now.verb (O.contents out.old)
         (O.contents out.new) }
     ensures left_stopped { result ≡ 2 → LeavesStopped task.now.verb task.now.json task.now.threads
         task.now.places bytes.now (O.contents out.old) (O.contents out.new) }
+    ensures left_shown { result ≡ 2 → LeavesAsked task.now.verb task.now.window task.now.places
+        bytes.now (O.contents out.old) (O.contents out.new) }
     ensures told { (result ≡ 1) ⊎ (result ≡ 2) → Tells task.now.explain task.now.places bytes.now
         result (E.contents err.old) (E.contents err.new) }
 {
@@ -134,6 +138,8 @@ fn perform<R: Threads + Wait + Sync, O: Write>(
     ensures counted { OnOk result (task.now.verb ≡ verb.Runs
         → PrintsRuns task.now.places task.now.limit task.now.seeds bytes.now (O.contents out.old)
         (O.contents out.new)) }
+    ensures shown { OnOk result (ShowsAsked task.now.verb task.now.window task.now.places bytes.now
+        (O.contents out.old) (O.contents out.new)) }
     ensures refused { IfErr result (λ e. status_of e ≡ 1
         → CanBeDone task.now.verb task.now.places bytes.now → ⊥) }
     ensures due { IfErr result (IsDue task.now.places bytes.now) }
@@ -141,6 +147,9 @@ fn perform<R: Threads + Wait + Sync, O: Write>(
         → LeavesRefused task.now.verb (O.contents out.old) (O.contents out.new)) }
     ensures left_stopped { IfErr result (λ e. status_of e ≡ 2
         → LeavesStopped task.now.verb task.now.json task.now.threads task.now.places bytes.now
+        (O.contents out.old) (O.contents out.new)) }
+    ensures left_shown { IfErr result (λ e. status_of e ≡ 2
+        → LeavesAsked task.now.verb task.now.window task.now.places bytes.now
         (O.contents out.old) (O.contents out.new)) }
 {
     match task.verb {

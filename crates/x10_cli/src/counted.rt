@@ -17,15 +17,15 @@ use crate::lines::print_outputs;
 use crate::schedule::schedule_of;
 use std::alloc::Global;
 use std::io::Write;
-use x10_schedule::Schedule;
-use x10_stats::{Stats, count_run, stats_text};
+use x10_stats::{Counts, count_run, stats_text};
 use x10_task::Task;
+use x10_verify::Verified;
 use x10_world::World;
 
 /// Runs a module in one thread, as `execute` does for a task without threads, and leaves in `stats` the lines that tell what
 /// was in the run: where it has ended, and where it stopped, until then. There are none where it was refused, or where memory
 /// for them or for the lines of places was; then nothing was printed. Each event is made by itself: where one activity works
-/// alone, that takes some 25 times as long as `execute`.
+/// alone, that takes some 35 times as long as `execute`.
 pub fn run_counted<O: Write, E: Write>(
     alloc: Global,
     task: &Task,
@@ -86,42 +86,35 @@ fn print_counted<O: Write>(
 {
     let verified = verified_in(alloc, bytes)?;
     let mut world = opened(alloc, task.places, &verified)?;
-    print_events(
-        alloc,
-        &mut world,
-        schedule_of(task),
-        task.limit,
-        task.json,
-        out,
-        stats,
-    )
+    print_events(alloc, task, &verified, &mut world, out, stats)
 }
 
-/// Makes the events of a program until the run has ended, at most `limit`, and counts them. Prints what its places printed until
-/// then, and leaves the lines that tell what was in the run.
+/// Makes the events of a program until the run has ended, as many as the task permits, and counts them. Prints what its places
+/// printed until then, and leaves the lines that tell what was in the run.
 fn print_events<O: Write>(
     alloc: Global,
+    task: &Task,
+    verified: &Verified,
     world: &mut World,
-    schedule: Schedule,
-    limit: u64,
-    json: bool,
     out: &mut O,
     stats: &mut Option<String>,
 ) -> Result<(), Fault>
     requires goes { world.old.stopped ≢ true }
     requires none { stats.old ≡ None }
-    ensures ended { OnOk result (PrintsCounts world.old (CountsAll limit) json
-        (option_map string_bytes stats.new) (O.contents out.old) (O.contents out.new)) }
+    ensures ended { OnOk result (PrintsCounts verified.now world.old
+        (CountsAll task.now.limit verified.now) task.now.json (option_map string_bytes stats.new)
+        (O.contents out.old) (O.contents out.new)) }
     ensures stopped { IfErr result (λ e. (e ≡ fault.File)
         ⊎ ((e ≡ fault.Memory) × (option_map string_bytes stats.new ≡ None)
         × Keeps (O.contents out.old) (O.contents out.new))
-        ⊎ PrintsCounts world.old (CountsSome limit e) json (option_map string_bytes stats.new)
-        (O.contents out.old) (O.contents out.new)) }
+        ⊎ PrintsCounts verified.now world.old (CountsSome task.now.limit e verified.now)
+        task.now.json (option_map string_bytes stats.new) (O.contents out.old)
+        (O.contents out.new)) }
     ensures status { IfErr result (λ e. status_of e ≢ 1) }
 {
-    let mut counts = Stats::new(world);
-    let ended = count_run(alloc, world, schedule, limit, &mut counts);
-    print_with_counts(alloc, world, &counts, json, out, stats)?;
+    let mut counts = Counts::new(alloc, verified, world)?;
+    let ended = count_run(alloc, world, schedule_of(task), task.limit, &mut counts);
+    print_with_counts(alloc, task.json, verified, &counts, world, out, stats)?;
     Ok(ended?)
 }
 
@@ -129,9 +122,10 @@ fn print_events<O: Write>(
 /// anything is printed.
 fn print_with_counts<O: Write>(
     alloc: Global,
-    world: &World,
-    counts: &Stats,
     json: bool,
+    verified: &Verified,
+    counts: &Counts,
+    world: &World,
     out: &mut O,
     stats: &mut Option<String>,
 ) -> Result<(), Fault>
@@ -139,13 +133,13 @@ fn print_with_counts<O: Write>(
     ensures ok { OnOk result (Appends (O.contents out.old) (O.contents out.new)
         (all_lines json 0 (lines_at world.now.places))) }
     ensures told { OnOk result (option_map string_bytes stats.new
-        ≡ Some (stats_lines counts.now world.now.places)) }
+        ≡ Some (stats_lines verified.now counts.now world.now.places)) }
     ensures err { IfErr result (λ e. (e ≡ fault.File)
         ⊎ Keeps (O.contents out.old) (O.contents out.new)) }
     ensures none { IfErr result (λ _. option_map string_bytes stats.new ≡ None) }
     ensures kind { IfErr result (λ e. (e ≡ fault.File) ⊎ (e ≡ fault.Memory)) }
 {
-    let text = stats_text(alloc, counts, world)?;
+    let text = stats_text(alloc, verified, counts, world)?;
     print_outputs(alloc, world, json, out)?;
     *stats = Some(text);
     Ok(())

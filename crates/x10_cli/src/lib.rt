@@ -22,6 +22,7 @@ mod schedule;
 mod show;
 mod shown;
 mod threads;
+mod window;
 
 pub use audited::audit_logged;
 pub use checking::{is_image, print_check};

@@ -1,5 +1,5 @@
 //! What shows the events of a run: their lines, also with notes, a picture, or a page.
-ghost use Rattle.std.specs.Prelude.{◌≡◌, ◌≢◌, ◌⊎◌, Bool, true, false, List, ℕ, IfOk, IfErr, OnOk, Ok, Err, []};
+ghost use Rattle.std.specs.Prelude.{◌≡◌, ◌≢◌, ◌⊎◌, Bool, false, List, ℕ, IfOk, IfErr, OnOk, Ok, Err, []};
 ghost use Rattle.std.specs.Io.KnownBytes.{Appends, Keeps};
 ghost use Rattle.std.specs.String.{string_bytes};
 ghost use Rattle.x10_draw.specs.Pages.{IsPage};
@@ -30,30 +30,31 @@ pub(crate) enum Show<'a> {
     /// The same, with notes behind them.
     Noted(Notes<'a>),
     /// A picture, when all are noted.
-    Picture(Drawing),
+    Picture(Drawing<'a>),
     /// A page: how it begins, a moment for each, and how it ends.
     Page(Recorder<'a>),
 }
 
-/// Begins to show a run as a command does, in the world before its first event: prints how a page begins.
+/// Begins to show a run as a command does, in the world behind so many events that aren't shown: prints how a page begins.
 pub(crate) fn begin<'a, O: Write>(
     alloc: Global,
     verb: Verb,
     verified: &'a Verified<'a>,
     world: &World,
+    before: u64,
     out: &mut O,
 ) -> Result<Show<'a>, Fault>
     ensures manner { IfOk result (λ s. IsMannerOf verb verified.now.program (manner_of s)) }
     ensures follows { IfOk result (λ s. Follows s world.now) }
-    ensures front { IfOk result (λ s. AppendsFront (manner_of s) world.now (O.contents out.old)
-        (O.contents out.new)) }
+    ensures front { IfOk result (λ s. AppendsFront (manner_of s) before world.now
+        (O.contents out.old) (O.contents out.new)) }
     ensures err { IfErr result (λ e. (e ≡ fault.File) ⊎ ((e ≡ fault.Memory)
         × Keeps (O.contents out.old) (O.contents out.new))) }
 {
     match verb {
         Verb::TraceVerbose => Ok(Show::Noted(Notes::new(alloc, verified)?)),
-        Verb::Draw => Ok(Show::Picture(Drawing::new(alloc, world.count())?)),
-        Verb::DrawPage => begin_paged(alloc, verified, world, out),
+        Verb::Draw => Ok(Show::Picture(Drawing::new(alloc, verified, world, before)?)),
+        Verb::DrawPage => begin_paged(alloc, verified, world, before, out),
         _ => Ok(Show::Lines),
     }
 }
@@ -63,17 +64,18 @@ fn begin_paged<'a, O: Write>(
     alloc: Global,
     verified: &'a Verified<'a>,
     world: &World,
+    before: u64,
     out: &mut O,
 ) -> Result<Show<'a>, Fault>
     ensures manner { IfOk result (λ s. IsMannerOf Verb.DrawPage verified.now.program
         (manner_of s)) }
     ensures follows { IfOk result (λ s. Follows s world.now) }
-    ensures front { IfOk result (λ s. AppendsFront (manner_of s) world.now (O.contents out.old)
-        (O.contents out.new)) }
+    ensures front { IfOk result (λ s. AppendsFront (manner_of s) before world.now
+        (O.contents out.old) (O.contents out.new)) }
     ensures err { IfErr result (λ e. (e ≡ fault.File) ⊎ ((e ≡ fault.Memory)
         × Keeps (O.contents out.old) (O.contents out.new))) }
 {
-    let (recorder, text) = begin_page(alloc, verified, world)?;
+    let (recorder, text) = begin_page(alloc, verified, world, before)?;
     out.write_all(text.as_bytes())?;
     Ok(Show::Page(recorder))
 }
@@ -129,22 +131,24 @@ impl<'a> Show<'a> {
         }
     }
 
-    /// Ends what was shown of events, unless a write has failed, and answers how they ended.
-    pub fn close<O: Write>(&self, shown: Result<(), Fault>, out: &mut O) -> Result<(), Fault>
-        ensures shown { OnOk result (shown ≡ Ok tt) }
-        ensures end { OnOk result (AppendsEnd (manner_of self.now) true (O.contents out.old)
-            (O.contents out.new)) }
+    /// Ends what was shown of events, unless a write has failed, by whether the run ended with them; answers why there are no more.
+    pub fn close<O: Write>(&self, ended: Result<bool, Fault>, out: &mut O) -> Result<(), Fault>
+        ensures end { OnOk result ((e : Bool) × (ended ≡ Ok e)
+            × AppendsEnd (manner_of self.now) e (O.contents out.old) (O.contents out.new)) }
         ensures err { IfErr result (λ e. (e ≡ fault.File) ⊎ ((e ≡ fault.Memory)
-            × (manner_of self.now ≡ ByPicture) × (shown ≢ Err fault.File)
+            × (manner_of self.now ≡ ByPicture) × (ended ≢ Err fault.File)
             × Keeps (O.contents out.old) (O.contents out.new))
-            ⊎ ((shown ≡ Err e) × AppendsEnd (manner_of self.now) false (O.contents out.old)
+            ⊎ ((ended ≡ Err e) × AppendsEnd (manner_of self.now) false (O.contents out.old)
             (O.contents out.new))) }
     {
-        if let Err(Fault::File) = shown {
-            return shown;
+        match ended {
+            Ok(ended) => self.end(ended, out),
+            Err(Fault::File) => Err(Fault::File),
+            Err(fault) => {
+                self.end(false, out)?;
+                Err(fault)
+            }
         }
-        self.end(shown.is_ok(), out)?;
-        shown
     }
 }
 

@@ -1,8 +1,12 @@
 //! The column of a place: its events so far, and the stays that live there.
 use std::alloc::{AllocError, Global};
 
+mod rows;
+
+pub(crate) use rows::{Row, Rows};
+
 /// What a stay is doing.
-#[derive(Clone, Copy, Debug, PartialEq, Eq)]
+#[derive(Clone, Copy, PartialEq, Eq)]
 pub(crate) enum State {
     /// It makes steps.
     Working,
@@ -17,7 +21,7 @@ pub(crate) enum State {
 }
 
 /// A piece of a stay's bar: what it was doing between two rows.
-#[derive(Clone, Copy, Debug, PartialEq, Eq)]
+#[derive(Clone, Copy)]
 pub(crate) struct Span {
     pub(crate) place: u16,
     pub(crate) lane: usize,
@@ -35,15 +39,11 @@ struct OpenStay {
     finishes: Vec<usize>,
 }
 
-/// The row of a step.
-#[derive(Clone, Copy, Debug, PartialEq, Eq)]
-pub(crate) enum Row {
-    /// A row of its own.
-    Own(u64),
-    /// A new row, which it shares with the steps after it.
-    Opened(u64),
-    /// The row of the steps before it.
-    Shared(u64),
+/// A lane: the stay that is in it, and how many columns of letters its widest label takes.
+#[derive(Drop)]
+struct Lane {
+    stay: Option<OpenStay>,
+    widest: usize,
 }
 
 /// The column of a place. A stay's key is the number of its lane: a place uses keys again that were given up, so there are as
@@ -51,119 +51,105 @@ pub(crate) enum Row {
 #[derive(Drop)]
 pub(crate) struct Column {
     alloc: Global,
-    place: u16,
-    row: u64,
-    /// How many steps in a row that put nothing out have rows of their own.
-    shown: u64,
-    quiet: u64,
-    stays: Vec<Option<OpenStay>>,
-    given_up: Vec<usize>,
-    finishes: u64,
+    pub(crate) place: u16,
+    pub(crate) rows: Rows,
+    lanes: Vec<Lane>,
+    /// The key of the stay that begins here next.
+    pub(crate) vacant: usize,
+    /// The widest label that is in no lane.
     widest: usize,
-    shortened: usize,
+    /// The numbers of the frames that were in flight to here when the drawing began, by rising number, and where the arrow of
+    /// the first one is: the others' follow it.
+    pub(crate) flights: Vec<u64>,
+    pub(crate) first_flight: usize,
 }
 
 impl Column {
-    /// The column of a place before the run, where `shown` steps in a row that put nothing out have rows of their own. The root
-    /// finish is number 0 of place 0.
+    /// The column of a place before the first row, where `shown` steps in a row that put nothing out have rows of their own.
     pub(crate) fn new(alloc: Global, place: u16, shown: u64) -> Column {
         Column {
             alloc,
             place,
-            row: 0,
-            shown,
-            quiet: 0,
-            stays: Vec::new(alloc),
-            given_up: Vec::new(alloc),
-            finishes: if place == 0 { 1 } else { 0 },
+            rows: Rows::new(shown),
+            lanes: Vec::new(alloc),
+            vacant: 0,
             widest: 0,
-            shortened: 0,
+            flights: Vec::new(alloc),
+            first_flight: 0,
         }
-    }
-
-    /// The number of the place.
-    pub(crate) fn place(&self) -> u16 {
-        self.place
     }
 
     /// How many lanes there are.
     pub(crate) fn lanes(&self) -> usize {
-        self.stays.len()
+        self.lanes.len()
     }
 
-    /// How many columns of letters the widest label takes.
-    pub(crate) fn widest(&self) -> usize {
-        self.widest
+    /// Whether nothing is seen of it.
+    pub(crate) fn is_empty(&self) -> bool {
+        self.lanes.is_empty() && self.widest == 0
     }
 
-    /// A label of `letters` letters is in this column.
-    pub(crate) fn widen(&mut self, letters: usize) {
-        self.widest = self.widest.max(letters);
-    }
-
-    /// The label of the row that steps share is the one with a number.
-    pub(crate) fn shorten(&mut self, label: usize) {
-        self.shortened = label;
-    }
-
-    /// The number of that label.
-    pub(crate) fn shortened(&self) -> usize {
-        self.shortened
-    }
-
-    /// The row of the last event.
-    pub(crate) fn row(&self) -> u64 {
-        self.row
-    }
-
-    /// A new row, below all rows so far of the place and below another one.
-    pub(crate) fn next_row(&mut self, below: u64) -> u64 {
-        self.quiet = 0;
-        self.row = self.row.max(below).saturating_add(1);
-        self.row
-    }
-
-    /// The row of a step that puts nothing out: its own for the first few in a row, and one for all that follow.
-    pub(crate) fn quiet_row(&mut self) -> Row {
-        let before = self.quiet;
-        self.quiet = before.saturating_add(1);
-        if before > self.shown {
-            return Row::Shared(self.row);
+    /// How many columns of letters the widest label of a lane takes, or of those that are in no lane.
+    pub(crate) fn widest(&self, lane: Option<usize>) -> usize {
+        let Some(lane) = lane else {
+            return self.widest;
+        };
+        match self.lanes.get(lane) {
+            Some(lane) => lane.widest,
+            None => 0,
         }
-        self.row = self.row.saturating_add(1);
-        if before == self.shown {
-            return Row::Opened(self.row);
+    }
+
+    /// A label of `letters` letters is in a lane, or in none.
+    pub(crate) fn widen(&mut self, lane: Option<usize>, letters: usize) {
+        let Some(lane) = lane else {
+            self.widest = self.widest.max(letters);
+            return;
+        };
+        if let Some(lane) = self.lanes.get_mut(lane) {
+            lane.widest = lane.widest.max(letters);
         }
-        Row::Own(self.row)
+    }
+
+    /// The arrow of such a frame. Logarithmic in their number.
+    pub(crate) fn flight(&self, number: u64) -> Option<usize> {
+        match self.flights.binary_search(&number) {
+            Ok(at) => self.first_flight.checked_add(at),
+            Err(_) => None,
+        }
     }
 }
 
 impl Column {
+    /// The stay with a key.
+    fn stay(&self, key: usize) -> Option<&OpenStay> {
+        match self.lanes.get(key) {
+            Some(
+                Lane {
+                    stay: Some(stay),
+                    ..
+                },
+            ) => Some(stay),
+            _ => None,
+        }
+    }
+
     /// Whether a stay with a key is known to live here.
     pub(crate) fn knows(&self, key: usize) -> bool {
-        matches!(self.stays.get(key), Some(Some(_)))
+        self.stay(key).is_some()
     }
 
-    /// The key that the next stay that begins here gets: the one that was given up last, otherwise the least that was never in
-    /// use.
-    pub(crate) fn vacant_key(&self) -> usize {
-        match self.given_up.last() {
-            Some(key) => *key,
-            None => self.stays.len(),
+    /// A stay with a key begins at a row, in a state. Lanes up to its own are made.
+    pub(crate) fn begin(&mut self, key: usize, state: State, row: u64) -> Result<(), AllocError> {
+        for _ in self.lanes.len()..=key {
+            self.lanes.push(Lane {
+                stay: None,
+                widest: 0,
+            })?;
         }
-    }
-
-    /// A stay with a key begins at a row. Lanes up to its own are made.
-    pub(crate) fn begin(&mut self, key: usize, row: u64) -> Result<(), AllocError> {
-        if self.given_up.last() == Some(&key) {
-            self.given_up.pop();
-        }
-        for _ in self.stays.len()..=key {
-            self.stays.push(None)?;
-        }
-        if let Some(lane) = self.stays.get_mut(key) {
-            *lane = Some(OpenStay {
-                state: State::Working,
+        if let Some(lane) = self.lanes.get_mut(key) {
+            lane.stay = Some(OpenStay {
+                state,
                 since: row,
                 last: row,
                 finishes: Vec::new(self.alloc),
@@ -172,55 +158,46 @@ impl Column {
         Ok(())
     }
 
-    /// A stay ends at a row, and its key is given up. Answers the last piece of its bar.
-    pub(crate) fn end(&mut self, key: usize, row: u64) -> Result<Option<Span>, AllocError> {
-        let Some(span) = self.rest(key, row) else {
-            return Ok(None);
-        };
-        self.given_up.push(key)?;
-        if let Some(lane) = self.stays.get_mut(key) {
-            *lane = None;
+    /// A stay ends at a row. Answers the last piece of its bar.
+    pub(crate) fn end(&mut self, key: usize, row: u64) -> Option<Span> {
+        let span = self.rest(key, row)?;
+        if let Some(lane) = self.lanes.get_mut(key) {
+            lane.stay = None;
         }
-        Ok(Some(span))
+        Some(span)
     }
 }
 
 impl Column {
-    /// A stay does something at a row.
-    pub(crate) fn act(&mut self, key: usize, row: u64) {
-        if let Some(Some(stay)) = self.stays.get_mut(key) {
-            stay.last = row;
-        }
-    }
-
     /// What a stay is doing when it has made a step: it is inside an atomic region as it was before, or at work.
     pub(crate) fn working(&self, key: usize) -> State {
-        match self.stays.get(key) {
-            Some(Some(stay)) if stay.state == State::Inside => State::Inside,
+        match self.stay(key) {
+            Some(stay) if stay.state == State::Inside => State::Inside,
             _ => State::Working,
         }
     }
 
-    /// From a row on, a stay is in a state. Answers the piece of its bar that ends there, if it was in another state and the
-    /// piece has a length.
+    /// A stay does something at a row, and is in a state from there on. Answers the piece of its bar that ends there, if it was in
+    /// another state and the piece has a length.
     pub(crate) fn change(&mut self, key: usize, state: State, row: u64) -> Option<Span> {
         let span = self.rest(key, row)?;
-        if span.state == state {
+        let lane = self.lanes.get_mut(key)?;
+        if let Some(stay) = &mut lane.stay {
+            stay.last = row;
+            if span.state != state {
+                stay.state = state;
+                stay.since = row;
+            }
+        }
+        if span.state == state || span.from == row {
             return None;
         }
-        if let Some(Some(stay)) = self.stays.get_mut(key) {
-            stay.state = state;
-            stay.since = row;
-            stay.last = row;
-        }
-        Some(span).filter(|span| span.from != span.to)
+        Some(span)
     }
 
     /// A stay may not go on yet: if it was at work, it has waited since its last step. Answers the piece of its bar up to that.
     pub(crate) fn wait(&mut self, key: usize) -> Option<Span> {
-        let Some(Some(stay)) = self.stays.get(key) else {
-            return None;
-        };
+        let stay = self.stay(key)?;
         if stay.state != State::Working {
             return None;
         }
@@ -230,9 +207,7 @@ impl Column {
 
     /// The piece of a stay's bar that isn't ended, up to a row.
     pub(crate) fn rest(&self, key: usize, row: u64) -> Option<Span> {
-        let Some(Some(stay)) = self.stays.get(key) else {
-            return None;
-        };
+        let stay = self.stay(key)?;
         Some(Span {
             place: self.place,
             lane: key,
@@ -241,37 +216,26 @@ impl Column {
             to: row,
         })
     }
-}
 
-impl Column {
-    /// The number of the finish that opens here next.
-    pub(crate) fn open_finish(&mut self) -> u64 {
-        let number = self.finishes;
-        self.finishes = number.saturating_add(1);
-        number
-    }
-
-    /// How many finishes a stay has open.
-    pub(crate) fn depth(&self, key: usize) -> usize {
-        match self.stays.get(key) {
-            Some(Some(stay)) => stay.finishes.len(),
-            _ => 0,
-        }
-    }
-
-    /// A stay has opened a finish: its bracket is the one with a number.
-    pub(crate) fn push_finish(&mut self, key: usize, bracket: usize) -> Result<(), AllocError> {
-        if let Some(Some(stay)) = self.stays.get_mut(key) {
-            stay.finishes.push(bracket)?;
-        }
-        Ok(())
+    /// A stay has opened a finish: its bracket is the one with a number. Answers how many it had open before.
+    pub(crate) fn push_finish(&mut self, key: usize, bracket: usize) -> Result<usize, AllocError> {
+        let Some(lane) = self.lanes.get_mut(key) else {
+            return Ok(0);
+        };
+        let Some(stay) = &mut lane.stay else {
+            return Ok(0);
+        };
+        let depth = stay.finishes.len();
+        stay.finishes.push(bracket)?;
+        Ok(depth)
     }
 
     /// A stay has closed its innermost finish: the number of its bracket.
     pub(crate) fn pop_finish(&mut self, key: usize) -> Option<usize> {
-        let Some(Some(stay)) = self.stays.get_mut(key) else {
-            return None;
-        };
-        stay.finishes.pop()
+        let lane = self.lanes.get_mut(key)?;
+        match &mut lane.stay {
+            Some(stay) => stay.finishes.pop(),
+            None => None,
+        }
     }
 }

@@ -10,17 +10,18 @@ use crate::sketch::Sketch;
 use std::alloc::{AllocError, Global};
 use std::marker::Model;
 use x10_model::Event;
+use x10_verify::Verified;
 use x10_world::{Done, World};
 
 /// A space-time diagram of a run, as far as its events were noted. Clauses see how many there were of each kind.
 #[derive(Drop)]
-pub struct Drawing {
+pub struct Drawing<'a> {
     alloc: Global,
     counts: Counts,
-    sketch: Sketch,
+    sketch: Sketch<'a>,
 }
 
-impl Model for Drawing {
+impl<'a> Model for Drawing<'a> {
     ghost use Rattle.x10_draw.specs.declared.counts.Counts.{Counts};
 
     ghost Value = { Counts };
@@ -28,12 +29,20 @@ impl Model for Drawing {
     ghost view = { λ d. d.counts };
 }
 
-impl Drawing {
-    /// The drawing of a run at `places` places before its first event. Takes memory for the places.
-    pub fn new(alloc: Global, places: u16) -> Result<Drawing, AllocError>
+impl<'a> Drawing<'a> {
+    /// The drawing of a run from a world on, as it stands after `before` events that aren't drawn: 0 at the beginning. The stays
+    /// that live there are drawn from the first row on, with the finishes that they have open, and each frame that is in flight
+    /// comes from the head of a lifeline. Takes what `x10_states::Kinds` takes of the module, and time and memory for each place,
+    /// each of those stays and finishes, and each byte of those frames.
+    pub fn new(
+        alloc: Global,
+        verified: &'a Verified<'a>,
+        world: &World,
+        before: u64,
+    ) -> Result<Drawing<'a>, AllocError>
         ensures { IfOk result (λ d. d ≡ no_events) }
     {
-        let sketch = Sketch::new(alloc, places)?;
+        let sketch = Sketch::new(alloc, verified, world, before)?;
         let counts = Counts {
             steps: 0,
             taken: 0,
@@ -47,10 +56,11 @@ impl Drawing {
     }
 
     /// Notes an event and what it did, in the world right after it: what `x10_trace::trace_line` takes. Each event of a run is
-    /// noted in its turn, from the first one on; one that wasn't noted leaves out what only it would have shown. After a
+    /// noted in its turn, from the first one after `new` on; one that wasn't noted leaves out what only it would have shown. After a
     /// refusal, which is for lack of memory, the event isn't counted, and it may be drawn in part.
     ///
-    /// Linear in the bytes of the frames that the event put out and in the line that it printed, otherwise constant. Takes
+    /// Linear in the bytes of the frames that the event put out and in the line that it printed, otherwise constant, but for a
+    /// frame that was in flight when the drawing began: that takes logarithmic time in the number of those. Takes
     /// memory for what is new in the picture: an idle step, or one among many that put nothing out, adds nothing unless a wait
     /// begins or ends with it.
     pub fn note(&mut self, world: &World, event: Event, done: &Done) -> Result<(), AllocError>

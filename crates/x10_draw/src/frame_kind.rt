@@ -3,7 +3,7 @@ use std::alloc::{AllocError, Global};
 use x10_frame::{FrameFault, FrameView, Head, What};
 
 /// The type of a frame, as its head says.
-#[derive(Clone, Copy, Debug, PartialEq, Eq)]
+#[derive(Clone, Copy, PartialEq, Eq)]
 pub(crate) enum FrameKind {
     Spawn,
     Shift,
@@ -35,12 +35,12 @@ pub(crate) fn head_of(
     }
 }
 
-/// What an arrow shows of a head: the type, the stay that waits for the frame, of a Back, and the function that begins.
-pub(crate) fn facts_of(head: Head) -> (FrameKind, Option<usize>, Option<u16>) {
+/// What an arrow shows of a head: the type, and the stay that waits, of a Shift for its result and of a Back for the frame.
+pub(crate) fn facts_of(head: Head) -> (FrameKind, Option<usize>) {
     match head.what {
-        What::Spawn { function, .. } => (FrameKind::Spawn, None, Some(function)),
-        What::Shift { function, .. } => (FrameKind::Shift, None, Some(function)),
-        What::Back { waiting } => (FrameKind::Back, Some(waiting as usize), None),
-        What::Report { .. } => (FrameKind::Report, None, None),
+        What::Spawn { .. } => (FrameKind::Spawn, None),
+        What::Shift { waiting, .. } => (FrameKind::Shift, Some(waiting as usize)),
+        What::Back { waiting } => (FrameKind::Back, Some(waiting as usize)),
+        What::Report { .. } => (FrameKind::Report, None),
     }
 }

@@ -3,7 +3,7 @@ use crate::words::{width, width_of};
 use std::alloc::AllocError;
 
 /// What a label shows.
-#[derive(Clone, Copy, Debug, PartialEq, Eq)]
+#[derive(Clone, Copy, PartialEq, Eq)]
 pub(crate) enum Tone {
     /// A step that put nothing out.
     Quiet,
@@ -11,31 +11,48 @@ pub(crate) enum Tone {
     Notable,
     /// A line of output.
     Printed,
-    /// This many steps that share a row; a single one is shown like any other.
-    Shortened(u64),
+    /// Where a stay stands when the drawing begins: shown where each lane has its labels beside it.
+    Standing,
 }
 
-/// A label in the row of an event, beside the lanes of its place.
+/// A label in the row of an event, beside its lane.
 #[derive(Drop)]
 pub(crate) struct Label {
     pub(crate) place: u16,
     pub(crate) lane: Option<usize>,
     pub(crate) row: u64,
     pub(crate) tone: Tone,
+    /// How many steps share the row; 0 where it is one event's alone.
+    pub(crate) steps: u64,
     pub(crate) text: String,
     /// All of the output's line, where it was cut.
     pub(crate) full: Option<String>,
 }
 
-/// How many columns of letters the label of a row that steps share may take.
+/// How many columns of letters the label of a row may take that steps share.
 const SHORTENED: usize = 14;
 
 impl Label {
+    /// Whether it stands for several steps. A single one is shown like any other.
+    pub(crate) fn is_shortened(&self) -> bool {
+        self.steps > 1
+    }
+
     /// How many columns of letters it takes.
     pub(crate) fn letters(&self) -> usize {
-        match self.tone {
-            Tone::Shortened(_) => SHORTENED.max(width_of(&self.text)),
-            _ => width_of(&self.text),
+        if self.is_shortened() {
+            SHORTENED
+        } else {
+            width_of(&self.text)
+        }
+    }
+
+    /// How many it takes now or later.
+    pub(crate) fn room(&self) -> usize {
+        if self.steps > 0 {
+            self.letters().max(SHORTENED)
+        } else {
+            self.letters()
         }
     }
 }

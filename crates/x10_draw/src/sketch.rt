@@ -1,47 +1,27 @@
 //! What a drawing has seen: columns with their stays, pieces of bars, arrows, brackets and labels.
 use crate::column::{Column, Row, Span, State};
-use crate::label::{Label, Tone};
+use crate::known::Known;
+use crate::label::Label;
 use crate::parts::{Arrow, Bracket, End, Fork};
-use crate::telling::{Move, main_label, quiet_label, step_label, text_of};
-use std::alloc::{AllocError, Global};
+use crate::telling::{Deed, Move, tone_of};
+use std::alloc::AllocError;
 use x10_code::{Group, Op, group};
 use x10_model::Event;
 use x10_world::{Done, World};
 
 mod deliveries;
+mod opening;
 mod steps;
-
-/// How much is shown of each event.
-#[derive(Clone, Copy, Debug, PartialEq, Eq)]
-struct Detail {
-    /// How many steps in a row that put nothing out have rows of their own.
-    shown: u64,
-    /// The most letters of a line of output that a label has.
-    letters: usize,
-}
-
-impl Detail {
-    /// Less where there are many places, so that the picture stays narrow and short.
-    fn of(places: u16) -> Detail {
-        if places <= 4 {
-            Detail {
-                shown: 8,
-                letters: 28,
-            }
-        } else {
-            Detail {
-                shown: 3,
-                letters: 16,
-            }
-        }
-    }
-}
 
 /// Everything that is drawn.
 #[derive(Drop)]
-pub(crate) struct Sketch {
-    alloc: Global,
-    detail: Detail,
+pub(crate) struct Sketch<'a> {
+    known: Known<'a>,
+    /// How many events there were before the first that is drawn.
+    pub(crate) before: u64,
+    /// The number of the first frame that is put out, and how many arrows there were before it.
+    first: u64,
+    early: usize,
     pub(crate) columns: Vec<Column>,
     pub(crate) spans: Vec<Span>,
     pub(crate) arrows: Vec<Arrow>,
@@ -51,32 +31,7 @@ pub(crate) struct Sketch {
     pub(crate) labels: Vec<Label>,
 }
 
-impl Sketch {
-    /// `places` places before a run: main is at place 0.
-    pub(crate) fn new(alloc: Global, places: u16) -> Result<Sketch, AllocError> {
-        let detail = Detail::of(places);
-        let mut columns = Vec::new(alloc);
-        for place in 0..places {
-            columns.push(Column::new(alloc, place, detail.shown))?;
-        }
-        let mut labels = Vec::new(alloc);
-        if let Some(home) = columns.first_mut() {
-            home.begin(0, 0)?;
-            labels.push(main_label(String::from_str(alloc, "main")?))?;
-        }
-        Ok(Sketch {
-            alloc,
-            detail,
-            columns,
-            spans: Vec::new(alloc),
-            arrows: Vec::new(alloc),
-            brackets: Vec::new(alloc),
-            forks: Vec::new(alloc),
-            ends: Vec::new(alloc),
-            labels,
-        })
-    }
-
+impl<'a> Sketch<'a> {
     /// An event, in the world after it.
     pub(crate) fn note(
         &mut self,
@@ -102,16 +57,32 @@ impl Sketch {
                     pc,
                     op,
                 };
-                self.moved(world, step, first, count)
+                self.moved(world, step, first, count)?;
+                self.expect(world, place);
+                Ok(())
             }
             (Event::Step(place, key), Done::Idle) => self.waited(place, key),
-            (Event::Deliver(number), Done::Taken { to }) => self.taken(world, number, to),
+            (Event::Deliver(number), Done::Taken { to }) => {
+                self.taken(world, number, to)?;
+                self.expect(world, to);
+                Ok(())
+            }
             _ => Ok(()),
         }
     }
 }
 
-impl Sketch {
+impl<'a> Sketch<'a> {
+    /// What begins next at a place gets the key that is next in a world.
+    fn expect(&mut self, world: &World, place: u16) {
+        let Some(key) = world.vacant_key(place) else {
+            return;
+        };
+        if let Some(column) = self.columns.get_mut(usize::from(place)) {
+            column.vacant = key;
+        }
+    }
+
     fn push_span(&mut self, span: Option<Span>) -> Result<(), AllocError> {
         if let Some(span) = span {
             self.spans.push(span)?;
@@ -143,8 +114,8 @@ impl Sketch {
             return Ok(());
         };
         if !column.knows(key) && world.has_key(place, key) {
-            let row = column.row();
-            column.begin(key, row)?;
+            let row = column.rows.last;
+            column.begin(key, State::Working, row)?;
         }
         Ok(())
     }
@@ -154,11 +125,11 @@ impl Sketch {
         let Some(column) = self.columns.get_mut(usize::from(place)) else {
             return Ok(None);
         };
-        let key = column.vacant_key();
+        let key = column.vacant;
         if !world.has_key(place, key) {
             return Ok(None);
         }
-        column.begin(key, row)?;
+        column.begin(key, State::Working, row)?;
         Ok(Some(key))
     }
 
@@ -167,7 +138,7 @@ impl Sketch {
         let Some(column) = self.columns.get_mut(usize::from(place)) else {
             return Ok(());
         };
-        let span = column.end(key, row)?;
+        let span = column.end(key, row);
         self.push_span(span)?;
         self.ends.push(End {
             place,
@@ -180,14 +151,14 @@ impl Sketch {
     /// A label at a row.
     fn label(&mut self, label: Label) -> Result<(), AllocError> {
         if let Some(column) = self.columns.get_mut(usize::from(label.place)) {
-            column.widen(label.letters());
+            column.widen(label.lane, label.room());
         }
         self.labels.push(label)?;
         Ok(())
     }
 }
 
-impl Sketch {
+impl<'a> Sketch<'a> {
     /// A step that moved, and put `count` frames out, numbered from `first` on.
     fn moved(
         &mut self,
@@ -198,60 +169,78 @@ impl Sketch {
     ) -> Result<(), AllocError> {
         self.know(world, step.place, step.key)?;
         let lives = world.has_key(step.place, step.key);
-        if lives && count == 0 && is_quiet(step.op) {
-            return self.quiet(step);
-        }
-        let Some(column) = self.columns.get_mut(usize::from(step.place)) else {
+        let quiet = lives && count == 0 && is_quiet(step.op);
+        let Some(row) = self.row_of(step, quiet, count) else {
             return Ok(());
         };
-        let row = column.next_row(0);
-        column.act(step.key, row);
-        let state = state_after(step, column);
-        self.change(step.place, step.key, state, row)?;
-        let mut text = text_of(self.alloc, step)?;
-        let full = self.tell(world, step, row, &mut text)?;
+        self.work(step, row)?;
+        let sent = self.arrows.len();
+        let deed = self.tell(world, step, row, lives)?;
         for number in first..first.saturating_add(count) {
-            self.post(world, step, row, number, &mut text)?;
+            self.post(world, step, row.number(), number)?;
         }
         if !lives {
-            self.end(step.place, step.key, row)?;
-            text.push_str(" end")?;
+            self.end(step.place, step.key, row.number())?;
         }
-        self.label(step_label(step, row, text, full))
+        if let Row::Shared(_) = row {
+            self.share(step.place);
+            return Ok(());
+        }
+        self.label_step(world, step, row, deed, sent, quiet)
     }
 
-    /// A step that put nothing out.
-    fn quiet(&mut self, step: Move) -> Result<(), AllocError> {
+    /// The row of a step, by whether its own stay alone can notice it, and how many frames it put out.
+    fn row_of(&mut self, step: Move, quiet: bool, count: u64) -> Option<Row> {
+        let column = self.columns.get_mut(usize::from(step.place))?;
+        if quiet {
+            Some(column.rows.quiet())
+        } else if count == 0 && step.op != Op::Print {
+            Some(column.rows.local())
+        } else {
+            Some(Row::Own(column.rows.next(0)))
+        }
+    }
+
+    /// A stay makes a step in a row.
+    fn work(&mut self, step: Move, row: Row) -> Result<(), AllocError> {
         let Some(column) = self.columns.get_mut(usize::from(step.place)) else {
             return Ok(());
         };
-        let row = column.quiet_row();
-        let (state, at) = (state_after(step, column), column.row());
-        column.act(step.key, at);
-        let span = column.change(step.key, state, at);
-        self.push_span(span)?;
-        match row {
-            Row::Own(at) => {
-                let text = text_of(self.alloc, step)?;
-                self.label(quiet_label(step, at, Tone::Quiet, text))
-            }
-            Row::Opened(at) => {
-                self.shorten(step.place);
-                let text = text_of(self.alloc, step)?;
-                self.label(quiet_label(step, at, Tone::Shortened(1), text))
-            }
-            Row::Shared(_) => {
-                self.share(step.place);
-                Ok(())
-            }
-        }
+        let state = state_after(step, column);
+        let span = column.change(step.key, state, row.number());
+        self.push_span(span)
     }
 
-    /// The next label is that of the row that steps share.
-    fn shorten(&mut self, place: u16) {
-        if let Some(column) = self.columns.get_mut(usize::from(place)) {
-            column.shorten(self.labels.len());
+    /// The label of a step that put out the arrows from `sent` on.
+    fn label_step(
+        &mut self,
+        world: &World,
+        step: Move,
+        row: Row,
+        deed: Deed,
+        sent: usize,
+        quiet: bool,
+    ) -> Result<(), AllocError> {
+        let frames = self.arrows.get(sent..);
+        let mut text = String::new(self.known.alloc);
+        let full = self.known.push_step(&mut text, world, step, deed, frames)?;
+        let mut steps = 0;
+        if let (Row::Opened(_), Some(column)) = (
+            row,
+            self.columns.get_mut(usize::from(step.place)),
+        ) {
+            column.rows.label = self.labels.len();
+            steps = 1;
         }
+        self.label(Label {
+            place: step.place,
+            lane: Some(step.key),
+            row: row.number(),
+            tone: tone_of(step.op, quiet),
+            steps,
+            text,
+            full,
+        })
     }
 
     /// One more step in the row that steps share.
@@ -259,11 +248,8 @@ impl Sketch {
         let Some(column) = self.columns.get(usize::from(place)) else {
             return;
         };
-        let Some(label) = self.labels.get_mut(column.shortened()) else {
-            return;
-        };
-        if let Tone::Shortened(steps) = label.tone {
-            label.tone = Tone::Shortened(steps.saturating_add(1));
+        if let Some(label) = self.labels.get_mut(column.rows.label) {
+            label.steps = label.steps.saturating_add(1);
         }
     }
 }

@@ -48,6 +48,10 @@ pub struct Checked {
 /// The greatest number of faults that are explained: each has 9 lines at most.
 const MOST_FAULTS: usize = 6;
 
+/// The greatest number of events that `--limit` permits a run: `MOST_EVENTS` of `x10_usage`, which this crate doesn't stand on.
+/// `tests/scripts/limits.sh` compares it with the one that the program takes.
+const MOST_EVENTS: u64 = 1_000_000_000;
+
 /// Whether an image is verified, which is `verify`'s answer; and the bound of each function, or the first fault of each
 /// function that has one. Where it isn't verified this costs `verify` of all functions at most twice, and the explanations of
 /// at most 6 functions.
@@ -119,6 +123,7 @@ fn refused_json<'a>(
             file,
             verified: false,
             bounds: None,
+            above_limit: None,
             faults,
         },
     )
@@ -209,12 +214,14 @@ fn bounds_json(alloc: Global, verified: &Verified, file: &str) -> Result<String,
     for f in 0..verified.image().functions() {
         bounds.push(verified.bound(f))?;
     }
+    let main = verified.bound(usize::from(verified.image().entry()));
     json_line(
         alloc,
         &CheckJson {
             file,
             verified: true,
             bounds: Some(bounds),
+            above_limit: Some(main > MOST_EVENTS),
             faults: Vec::new(alloc),
         },
     )

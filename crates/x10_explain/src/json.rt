@@ -22,6 +22,8 @@ pub(crate) struct CheckJson<'a> {
     pub(crate) verified: bool,
     /// The bound of each function of a module that is verified.
     pub(crate) bounds: Option<Vec<u64>>,
+    /// Whether main's is above the greatest limit of a run.
+    pub(crate) above_limit: Option<bool>,
     pub(crate) faults: Vec<FaultJson<'a>>,
 }
 

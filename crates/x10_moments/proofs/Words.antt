@@ -1,9 +1,8 @@
 -- What a frame says.
-use Rattle.std.proofs.Common.{◌≡◌, ℕ, ◌<◌, ◌^◌, List, Result, Ok, sym, ap, ap₂, ◌∙◌}
-use Rattle.x10_model.specs.Frames.{Frame, byte_of}
+use Rattle.std.proofs.Common.{◌≡◌, ℕ, ◌<◌, ◌^◌, List, sym, ap, ap₂, ◌∙◌}
 use Rattle.x10_model.specs.ReadingFrames.{frame_at}
 use Rattle.x10_model.proofs.FrameLaws.{frame_again}
-use Rattle.x10_frame_lines.specs.Lines.{IsTold, frame_text}
+use Rattle.x10_frame_lines.specs.Lines.{IsTold}
 use Rattle.x10_frame_lines.proofs.Fronts.{first_is}
 use Rattle.x10_moments.specs.Moments.{words_of, words_read}
 

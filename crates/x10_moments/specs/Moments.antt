@@ -16,7 +16,7 @@ use Rattle.x10_states.specs.Json.{comma, elements, json}
 use Rattle.x10_states.specs.declared.parts.Parts.{Parts}
 use Rattle.x10_states.specs.Parts.{ArePartsOf}
 use Rattle.x10_place.specs.StandsFor.{PlaceState}
-use Rattle.x10_moments.specs.Changes.{bytes_of, change_text}
+use Rattle.x10_moments.specs.Changes.{bytes_of, change_text, pieces}
 
 -- ---- places
 
@@ -101,6 +101,20 @@ posts_text places s (done.Moved function pc op first count) =
     frames_text places s first (in_range first count)
 posts_text places s _ = codes "[]"
 
+-- a frame in flight, if there is one, behind a comma
+abbrev pub flight_piece : (places : ℕ) → Option Flight → List ℕ
+flight_piece places None = []
+flight_piece places (Some f) = 44 ∷ told_text f.number f.to (words_of places f.bytes)
+
+-- those of the first so many frames that are in flight
+abbrev pub flight_pieces : (places : ℕ) → FlightsState → ℕ → List ℕ
+flight_pieces places s n = pieces n (λ i. flight_piece places (flight_of s i))
+
+-- how many frames were put out, and those of them that are in flight
+unfoldable pub flights_text : (places : ℕ) → FlightsState → List ℕ
+flights_text places s = codes "["
+    ++ (decimal s.posted ++ (flight_pieces places s s.posted ++ codes "]"))
+
 -- ---- moments
 
 -- each part behind its name
@@ -121,7 +135,7 @@ abbrev pub first_places : ℕ → List Shown → List ℕ
 first_places n [] = []
 first_places n (s ∷ ss) = (comma n ++ place_text n nothing s) ++ first_places (n + 1) ss
 
--- what the places show before the first event
+-- what the places show at the beginning
 unfoldable pub first_moment : List Shown → List ℕ
 first_moment shown = codes "{\"event\":\"\",\"places\":["
     ++ (first_places 0 shown ++ codes "],\"posts\":[]}")

@@ -14,14 +14,15 @@ pub record RecorderState : Type 0 where
   pub kinds : List FlowFacts
   pub places : List Shown
 
--- A page was begun of a world of a module: what is known of its functions are their least assignments, what is kept is what the
--- places show, and the text says that.
-pub record IsBegun (program : Module) (x : WorldState) (r : RecorderState)
+-- A page was begun of a world of a module, before which so many events were made: what is known of its functions are their least
+-- assignments, what is kept is what the places show, and the text says that, and which frames are in flight.
+pub record IsBegun (program : Module) (x : WorldState) (before : ℕ) (r : RecorderState)
     (text : List ℕ) : Type 0 where
   pub program_is : r.program ≡ program
   pub least : AreLeast r.program r.kinds
   pub shown : AreShown r.program r.kinds x.places r.places
-  pub text_is : text ≡ page_front r.program (length x.places) ++ first_moment r.places
+  pub text_is : text ≡ page_front r.program (length x.places) before x.flights
+      ++ first_moment r.places
 
 -- what is kept is what a place shows now, if one is named, and else as it was
 abbrev pub Updates : Module → List FlowFacts → WorldState → Option ℕ → (old new : List Shown) → Type 0

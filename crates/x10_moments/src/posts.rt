@@ -1,10 +1,10 @@
-//! Frames that an event put out.
+//! Frames in flight: those that an event put out, and all of them.
 ghost use Rattle.std.specs.Prelude.{◌≡◌, ◌<◌, ◌+◌, ◌^◌, ◌++◌, OnOk, IfOk, length};
 ghost use Rattle.std.specs.String.{string_bytes};
 ghost use Rattle.x10_flights.specs.Flights.{flight_of};
 ghost use Rattle.x10_states.specs.Json.{comma, elements};
 ghost use Rattle.x10_trace.specs.Trace.{in_range};
-ghost use Rattle.x10_moments.specs.Moments.{frames_text, post_text, posts_text, told_text, words_of};
+ghost use Rattle.x10_moments.specs.Moments.{flight_piece, flight_pieces, flights_text, frames_text, post_text, posts_text, told_text, words_of};
 
 use std::alloc::{AllocError, Global};
 use std::fmt::Write;
@@ -90,6 +90,56 @@ fn push_post(alloc: Global, text: &mut String, world: &World, number: u64) -> Re
         return text.push_str("null");
     };
     let words = words(alloc, bytes, world.count())?;
+    push_words(text, number, to, &words)
+}
+
+/// How many frames were put out, and those of them that are in flight. Linear in that number.
+#[tactic(auto, unfolding(crate::specs::Moments::flights_text))]
+pub(crate) fn push_flights(
+    alloc: Global,
+    text: &mut String,
+    world: &World,
+) -> Result<(), AllocError>
+    ensures { OnOk result (string_bytes text.new ≡ string_bytes text.old
+        ++ flights_text (length world.now.places) world.now.flights) }
+{
+    let count = world.posted();
+    write!(text, "[{count}")?;
+    push_first_flights(alloc, text, world, count)?;
+    text.push_str("]")
+}
+
+/// Those of the first `count` frames that are in flight, each behind a comma.
+fn push_first_flights(
+    alloc: Global,
+    text: &mut String,
+    world: &World,
+    count: u64,
+) -> Result<(), AllocError>
+    ensures { OnOk result (string_bytes text.new ≡ string_bytes text.old
+        ++ flight_pieces (length world.now.places) world.now.flights count) }
+{
+    for number in 0..count {
+        push_flight(alloc, text, world, number)?;
+    }
+    Ok(())
+}
+
+/// The frame with a number behind a comma, if it is in flight.
+fn push_flight(
+    alloc: Global,
+    text: &mut String,
+    world: &World,
+    number: u64,
+) -> Result<(), AllocError>
+    ensures { OnOk result (string_bytes text.new ≡ string_bytes text.old
+        ++ flight_piece (length world.now.places) (flight_of world.now.flights number)) }
+{
+    let Some((to, bytes)) = world.frame(number) else {
+        return Ok(());
+    };
+    let words = words(alloc, bytes, world.count())?;
+    text.push(',')?;
     push_words(text, number, to, &words)
 }
 

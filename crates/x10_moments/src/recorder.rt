@@ -8,11 +8,11 @@ ghost use Rattle.x10_states.specs.Parts.{ArePartsOf};
 ghost use Rattle.x10_world.specs.Happenings.{HasDone};
 ghost use Rattle.x10_world.specs.StandsForWorld.{WorldState};
 ghost use Rattle.x10_moments.specs.Moments.{AreShown, IsShown, Shown, changed_place, changed_text, event_part, first_moment, first_places, next_moment, nothing, place_text, places_part, posts_part, posts_text};
-ghost use Rattle.x10_moments.specs.Pages.{data_front, listing_part, page_front, count_part};
+ghost use Rattle.x10_moments.specs.Pages.{counts_part, data_front, flights_part, listing_part, page_front};
 ghost use Rattle.x10_moments.specs.Recorders.{IsBegun, Updates};
 
 use crate::parts::{no_parts, push_changed_place, push_place};
-use crate::posts::push_posts;
+use crate::posts::{push_flights, push_posts};
 use std::alloc::{AllocError, Global};
 use std::fmt::Write;
 use std::marker::Model;
@@ -44,18 +44,20 @@ impl<'a> Model for Recorder<'a> {
     ghost view = { λ a. record { program = a.verified.now.program; kinds = a.kinds; places = map shown_by a.places.items } };
 }
 
-/// Begins a page of a run of a verified module, in the world before its first event, and answers what will make the moments after
-/// it, and how the page begins, the first moment included. Linear in what the places hold; takes 0.4 kB for each instruction of
-/// the module.
+/// Begins a page of a run of a verified module, in the world before the first event that it shows, and answers what will make the
+/// moments after it, and how the page begins, the first moment included. `before` is how many events of the run were made until
+/// then. Linear in what the places hold and in how many frames were put out; takes 0.4 kB for each instruction of the module.
 pub fn begin_page<'a>(
     alloc: Global,
     verified: &'a Verified<'a>,
     world: &World,
+    before: u64,
 ) -> Result<(Recorder<'a>, String), AllocError>
-    ensures { IfOk result (λ x. IsBegun verified.now.program world.now x.0 (string_bytes x.1)) }
+    ensures { IfOk result (λ x. IsBegun verified.now.program world.now before x.0
+        (string_bytes x.1)) }
 {
     let mut recorder = Recorder::new(alloc, verified)?;
-    let text = recorder.begin(world)?;
+    let text = recorder.begin(world, before)?;
     Ok((recorder, text))
 }
 
@@ -79,12 +81,25 @@ fn push_named(text: &mut String, name: &str, value: &str) -> Result<(), AllocErr
     push_json(text, value)
 }
 
-/// Pushes how many places there are, and how the moments begin.
-#[tactic(auto, unfolding(crate::specs::Pages::count_part))]
-fn push_count(text: &mut String, places: u16) -> Result<(), AllocError>
-    ensures { OnOk result (string_bytes text.new ≡ string_bytes text.old ++ count_part places) }
+/// Pushes how many places there are, and how many events were made before.
+#[tactic(auto, unfolding(crate::specs::Pages::counts_part))]
+fn push_counts(text: &mut String, places: u16, before: u64) -> Result<(), AllocError>
+    ensures { OnOk result (string_bytes text.new
+        ≡ string_bytes text.old ++ counts_part places before) }
 {
-    write!(text, ",\"places\":{places},\"moments\":[\n")
+    write!(text, ",\"places\":{places},\"before\":{before}")
+}
+
+/// Pushes the frames in flight, behind their name, and how the moments begin.
+#[tactic(auto, unfolding(crate::specs::Pages::flights_part))]
+fn push_flights_part(alloc: Global, text: &mut String, world: &World) -> Result<(), AllocError>
+    ensures { OnOk result (string_bytes text.new ≡ string_bytes text.old
+        ++ flights_part (length world.now.places) world.now.flights) }
+{
+    text.push_str(",\"flights\":")?;
+    push_flights(alloc, text, world)?;
+    text.push_str(",\"moments\":[\n")?;
+    Ok(())
 }
 
 impl<'a> Recorder<'a> {
@@ -103,11 +118,11 @@ impl<'a> Recorder<'a> {
         })
     }
 
-    /// How a page begins, and what the places of a world show. Linear in what they hold.
-    fn begin(&mut self, world: &World) -> Result<String, AllocError>
+    /// How a page begins, and what the places of a world show. Linear in what they hold and in how many frames were put out.
+    fn begin(&mut self, world: &World, before: u64) -> Result<String, AllocError>
         requires { self.old.places ≡ [] }
         ensures text { IfOk result (λ text. string_bytes text
-            ≡ page_front self.old.program (length world.now.places)
+            ≡ page_front self.old.program (length world.now.places) before world.now.flights
             ++ first_moment self.new.places) }
         ensures places { IfOk result (λ _. AreShown self.old.program self.old.kinds
             world.now.places self.new.places) }
@@ -115,7 +130,7 @@ impl<'a> Recorder<'a> {
         ensures kinds { self.new.kinds ≡ self.old.kinds }
     {
         let mut text = String::from_str(self.alloc, HEAD)?;
-        self.push_front(&mut text, world.count())?;
+        self.push_front(&mut text, world, before)?;
         self.push_first_moment(&mut text, world)?;
         Ok(text)
     }
@@ -141,12 +156,13 @@ impl<'a> Recorder<'a> {
 
     /// Pushes how the data begin.
     #[tactic(auto, unfolding(crate::specs::Pages::data_front))]
-    fn push_front(&self, text: &mut String, places: u16) -> Result<(), AllocError>
-        ensures { OnOk result (string_bytes text.new
-            ≡ string_bytes text.old ++ data_front self.now.program places) }
+    fn push_front(&self, text: &mut String, world: &World, before: u64) -> Result<(), AllocError>
+        ensures { OnOk result (string_bytes text.new ≡ string_bytes text.old
+            ++ data_front self.now.program (length world.now.places) before world.now.flights) }
     {
         self.push_listing(text)?;
-        push_count(text, places)
+        push_counts(text, world.count(), before)?;
+        push_flights_part(self.alloc, text, world)
     }
 
     /// What a place of a world shows.

@@ -57,71 +57,75 @@ e: 0.85rem; font-weight: 700; border-bottom: 1px solid var(--line); }\n.new { bo
 ext-decoration: line-through; }\n\n/* an activity */\n.stays { display: grid; grid-template-column\
 s: repeat(auto-fill, minmax(min(100%, 24rem), 1fr)); gap: 0 1rem; align-items: start; }\n.stay { m\
 argin-top: 0.4rem; padding: 0.3rem 0 0.3rem 0.6rem; border-top: 1px solid var(--line); min-width: \
-0; }\n.stay:first-child { border-top: 0; }\n.stay.began, .stay.moved { box-shadow: inset 0.3rem 0 \
-0 var(--mark); }\n.stay.tried { border-left: 0.3rem dashed var(--mark); padding-left: 0.3rem; }\n.\
-stay h3 { display: flex; flex-wrap: wrap; gap: 0 0.6rem; align-items: baseline; }\n.stay .name { f\
-ont-weight: 700; font-size: 1.05rem; }\n.stay .key { color: var(--quiet); font-size: 0.85rem; }\n.\
-state { margin-left: auto; padding: 0 0.5em; font-size: 0.85rem; font-weight: 700; border: 2px sol\
-id var(--now); border-radius: 1em; white-space: nowrap; }\n.state.works { background: var(--now); \
-color: var(--paper); }\n.state.waits { border-style: dashed; border-color: var(--quiet); }\n.state\
-.away { border-style: dotted; border-color: var(--quiet); }\n.state.inside { background: var(--ink\
-); color: var(--paper); border-color: var(--ink); }\n.state.newly { outline: 3px solid var(--mark)\
-; outline-offset: 1px; }\n.told { color: var(--quiet); font-size: 0.88rem; overflow-wrap: anywhere\
-; }\n.frame { display: flex; flex-wrap: wrap; gap: 0.2rem 0.8rem; align-items: start; margin-top: \
-0.2rem; }\n.frame > :first-child { flex: 1 1 9rem; min-width: 0; }\n.frame > :last-child { flex: 1\
-.6 1 12rem; min-width: 0; }\n.code { background: var(--code); font-size: 0.92rem; overflow-x: auto\
-; padding-block: 0.1rem; }\n.code li { display: flex; white-space: pre; padding-right: 0.4rem; }\n\
-.code .number { flex: 0 0 3.4rem; padding-right: 0.6rem; text-align: right; color: var(--quiet); f\
-ont-weight: 400; }\n.code [aria-current] { font-weight: 700; outline: 1px solid var(--now); outlin\
-e-offset: -1px; }\n.pointer, .code [aria-current] .number { color: var(--now); font-weight: 700; }\
-\n.code [aria-current] .number::before { content: \"\\25b6\\a0\"; }\n.registers { border-collapse:\
-\x20collapse; font-size: 0.92rem; width: 100%; }\n.registers th { width: 2.4rem; padding-left: 0.6\
-rem; text-align: left; vertical-align: top; font-weight: inherit; color: var(--quiet); }\n.registe\
-rs td { padding-right: 0.4rem; vertical-align: top; }\n.registers .kind { width: 3.7rem; color: va\
-r(--quiet); font-weight: 400; }\n.value { overflow-wrap: anywhere; }\n.loop { padding-left: 0.6rem\
-; font-size: 0.9rem; }\n.loop:not(.new) { color: var(--quiet); }\n.more { margin-top: 0.2rem; padd\
-ing: 0 0.5rem; font-size: 0.8rem; border-color: var(--line); }\nsummary { cursor: pointer; font-si\
-ze: 0.88rem; color: var(--quiet); }\n\n/* finishes, lines, the heap */\n.list { columns: 22rem aut\
-o; column-gap: 1rem; }\n[data-part=\"lines\"] .list { columns: auto; }\n.list li { display: flex; \
-flex-wrap: wrap; gap: 0 0.8rem; padding-left: 0.6rem; font-size: 0.92rem; break-inside: avoid; }\n\
-.list .what { color: var(--quiet); font-weight: 400; }\n.list span.new { padding-inline: 0.6rem 0.\
-3rem; }\n.list .value { min-width: 0; white-space: pre-wrap; }\n\n/* frames in flight, each type b\
-y the colour and the stroke of its side */\naside { position: sticky; top: var(--below, 9rem); max\
--height: calc(100vh - var(--below, 9rem) - 0.8rem); overflow-y: auto; }\n#flights [data-frame] { m\
-argin-top: 0.5rem; padding: 0.15rem 0.4rem 0.15rem 0.6rem; border-left: 0.35rem solid var(--quiet)\
-; }\n#flights [data-frame].Spawn { border-left-color: var(--spawn); }\n#flights [data-frame].Shift\
-\x20{ border-left-color: var(--shift); }\n#flights [data-frame].Back { border-left: 0.35rem dashed\
-\x20var(--reply); }\n#flights [data-frame].Report { border-left: 0.35rem dotted var(--quiet); }\n#\
-flights > .new { box-shadow: none; outline: 3px solid var(--mark); }\n#flights .gone, #flights .no\
-ne { margin-top: 0.4rem; }\n#flights .lines { font-size: 0.88rem; font-weight: 400; overflow-wrap:\
-\x20anywhere; }\n.none { color: var(--quiet); }\n.help { margin-top: 0.8rem; border-top: 1px solid\
-\x20var(--line); padding-top: 0.4rem; }\n#listing { margin: 0.3rem 0 0; font-size: 0.85rem; overfl\
-ow-x: auto; }\n.help p { margin: 0.3rem 0; padding-left: 0.6rem; font-size: 0.9rem; }\n@media (max\
--width: 60rem) {\n  main { grid-template-columns: minmax(0, 1fr); }\n  aside { position: static; m\
-ax-height: none; }\n}\n@media print {\n  :root { --ink: #000000; --paper: #ffffff; --ground: #ffff\
-ff; --quiet: #333333; --line: #888888; --tint: #ffffff;\n    --code: #ffffff; --now: #000000; --ma\
-rk: #000000; --event: #000000; font-size: 10pt; }\n  .controls, #map, .more, .help { display: none\
-; }\n  #head, aside { position: static; max-height: none; }\n  .crowded .place:not(.small) { conte\
-nt-visibility: visible; }\n  .stay { break-inside: avoid; }\n  * { print-color-adjust: exact; }\n}\
-\n</style>\n</head>\n<body>\n<header id=\"head\">\n<h1 class=\"unseen\">A run, step by step</h1>\n\
-<div class=\"controls\">\n<button id=\"first\" type=\"button\" title=\"First moment (Home)\">First\
-</button>\n<button id=\"back\" type=\"button\" title=\"One event back (left)\">Back</button>\n<but\
-ton id=\"forward\" type=\"button\" title=\"One event forward (right)\">Forward</button>\n<button i\
-d=\"last\" type=\"button\" title=\"Last moment (End)\">Last</button>\n<button id=\"play\" type=\"b\
-utton\" title=\"Go forward by itself\">Play</button>\n<label>Events a second\n<select id=\"speed\"\
-><option>1</option><option selected>2</option><option>5</option><option>20</option></select>\n</la\
-bel>\n<label class=\"wide\"><span class=\"unseen\">Moment</span><input id=\"slider\" type=\"range\
-\" min=\"0\" value=\"0\"></label>\n<label><input id=\"follow\" type=\"checkbox\" checked> Follow t\
-he event</label>\n</div>\n<p class=\"now\" aria-live=\"polite\"><span id=\"position\"></span> <spa\
-n id=\"event\"></span></p>\n<ul id=\"notes\" aria-label=\"What it did\"></ul>\n<nav id=\"map\" ari\
-a-label=\"Places\"></nav>\n</header>\n<main>\n<div id=\"places\"></div>\n<aside aria-labelledby=\"\
-flights-title\">\n<h2 id=\"flights-title\">Frames in flight</h2>\n<ul id=\"flights\"></ul>\n<detai\
-ls class=\"help\">\n<summary>Listing</summary>\n<pre id=\"listing\"></pre>\n</details>\n<details c\
-lass=\"help\">\n<summary>Keys and marks</summary>\n<p>Left and right: one event. Page up and page \
-down: ten. Home and End: the first and the last moment.\nThe address ends in the number of the mom\
-ent, as <code>#12</code>.</p>\n<p class=\"new\">A bar, a tint and bold type: this event changed it\
-.</p>\n<p><b class=\"pointer\">&#9654;</b> is the next instruction of an activity, and a bar marks\
-\x20the one that this event did;\na broken bar: it had nothing to do.\n<code>f3 at 1</code> is an \
-activity that began with function 3 at place 1.</p>\n</details>\n</aside>\n</main>\n<noscript><p>T\
-his page needs JavaScript. It loads nothing from anywhere.</p></noscript>\n<script id=\"run\" type\
-=\"application/json\">\n";
+0; }\n.stay:first-child { border-top: 0; }\n/* what is scrolled to isn't below the head */\n.place\
+, .stay { scroll-margin-block: var(--below, 9rem) 0.8rem; }\n.stay.began, .stay.moved { box-shadow\
+: inset 0.3rem 0 0 var(--mark); }\n.stay.tried { border-left: 0.3rem dashed var(--mark); padding-l\
+eft: 0.3rem; }\n.stay h3 { display: flex; flex-wrap: wrap; gap: 0 0.6rem; align-items: baseline; }\
+\n.stay .name { font-weight: 700; font-size: 1.05rem; }\n.state { margin-left: auto; padding: 0 0.\
+5em; font-size: 0.85rem; font-weight: 700; border: 2px solid var(--now); border-radius: 1em; white\
+-space: nowrap; }\n.state.works { background: var(--now); color: var(--paper); }\n.state.waits { b\
+order-style: dashed; border-color: var(--quiet); }\n.state.away { border-style: dotted; border-col\
+or: var(--quiet); }\n.state.inside { background: var(--ink); color: var(--paper); border-color: va\
+r(--ink); }\n.state.newly { outline: 3px solid var(--mark); outline-offset: 1px; }\n.told { color:\
+\x20var(--quiet); font-size: 0.88rem; overflow-wrap: anywhere; }\n.frame { display: flex; flex-wra\
+p: wrap; gap: 0.2rem 0.8rem; align-items: start; margin-top: 0.2rem; }\n.frame > :first-child { fl\
+ex: 1 1 9rem; min-width: 0; }\n.frame > :last-child { flex: 1.6 1 12rem; min-width: 0; }\n.code { \
+background: var(--code); font-size: 0.92rem; overflow-x: auto; padding-block: 0.1rem; }\n.code li \
+{ display: flex; white-space: pre; padding-right: 0.4rem; }\n.code .number { flex: 0 0 3.4rem; pad\
+ding-right: 0.6rem; text-align: right; color: var(--quiet); font-weight: 400; }\n.code [aria-curre\
+nt] { font-weight: 700; outline: 1px solid var(--now); outline-offset: -1px; }\n.pointer, .code [a\
+ria-current] .number { color: var(--now); font-weight: 700; }\n.code [aria-current] .number::befor\
+e { content: \"\\25b6\\a0\"; }\n.registers { border-collapse: collapse; font-size: 0.92rem; width:\
+\x20100%; }\n.registers th { width: 2.4rem; padding-left: 0.6rem; text-align: left; vertical-align\
+: top; font-weight: inherit; color: var(--quiet); }\n.registers td { padding-right: 0.4rem; vertic\
+al-align: top; }\n.registers .kind { width: 3.7rem; color: var(--quiet); font-weight: 400; }\n.val\
+ue { overflow-wrap: anywhere; }\n.loop { padding-left: 0.6rem; font-size: 0.9rem; }\n.loop:not(.ne\
+w) { color: var(--quiet); }\n.more { margin-top: 0.2rem; padding: 0 0.5rem; font-size: 0.8rem; bor\
+der-color: var(--line); }\nsummary { cursor: pointer; font-size: 0.88rem; color: var(--quiet); }\n\
+\n/* finishes, lines, the heap */\n.list { columns: 22rem auto; column-gap: 1rem; }\n[data-part=\"\
+lines\"] .list { columns: auto; }\n[data-part=\"finishes\"] .value { font-family: inherit; }\n[dat\
+a-part=\"finishes\"] .value:not(.new) { font-weight: 400; }\n.list li { display: flex; flex-wrap: \
+wrap; gap: 0 0.8rem; padding-left: 0.6rem; font-size: 0.92rem; break-inside: avoid; }\n.list .what\
+\x20{ color: var(--quiet); font-weight: 400; }\n.list span.new { padding-inline: 0.6rem 0.3rem; }\
+\n.list .value { min-width: 0; white-space: pre-wrap; }\n\n/* frames in flight, each type by the c\
+olour and the stroke of its side */\naside { position: sticky; top: var(--below, 9rem); max-height\
+: calc(100vh - var(--below, 9rem) - 0.8rem); overflow-y: auto; }\n#flights [data-frame] { margin-t\
+op: 0.5rem; padding: 0.15rem 0.4rem 0.15rem 0.6rem; border-left: 0.35rem solid var(--quiet); }\n#f\
+lights [data-frame].Spawn { border-left-color: var(--spawn); }\n#flights [data-frame].Shift { bord\
+er-left-color: var(--shift); }\n#flights [data-frame].Back { border-left: 0.35rem dashed var(--rep\
+ly); }\n#flights [data-frame].Report { border-left: 0.35rem dotted var(--quiet); }\n#flights > .ne\
+w { box-shadow: none; outline: 3px solid var(--mark); }\n#flights .gone, #flights .none { margin-t\
+op: 0.4rem; }\n#flights .lines { font-size: 0.88rem; font-weight: 400; overflow-wrap: anywhere; }\
+\n.none { color: var(--quiet); }\n.help { margin-top: 0.8rem; border-top: 1px solid var(--line); p\
+adding-top: 0.4rem; }\n#listing { margin: 0.3rem 0 0; font-size: 0.85rem; overflow-x: auto; }\n.he\
+lp p { margin: 0.3rem 0; padding-left: 0.6rem; font-size: 0.9rem; }\n@media (max-width: 60rem) {\n\
+\x20 main { grid-template-columns: minmax(0, 1fr); }\n  aside { position: static; max-height: none\
+; }\n}\n@media print {\n  :root { --ink: #000000; --paper: #ffffff; --ground: #ffffff; --quiet: #3\
+33333; --line: #888888; --tint: #ffffff;\n    --code: #ffffff; --now: #000000; --mark: #000000; --\
+event: #000000; font-size: 10pt; }\n  .controls, #map, .more, .help { display: none; }\n  .stay > \
+.more { display: block; padding: 0; border: 0; }\n  #head, aside { position: static; max-height: n\
+one; }\n  .crowded .place:not(.small) { content-visibility: visible; grid-column: 1 / -1; }\n  .st\
+ays { grid-template-columns: repeat(auto-fill, minmax(min(100%, 15rem), 1fr)); }\n  .stay, #flight\
+s > li { break-inside: avoid; }\n  #flights { columns: 14rem auto; }\n  * { print-color-adjust: ex\
+act; }\n}\n</style>\n</head>\n<body>\n<header id=\"head\">\n<h1 class=\"unseen\">A run, step by st\
+ep</h1>\n<div class=\"controls\">\n<button id=\"first\" type=\"button\" title=\"First moment (Home\
+)\">First</button>\n<button id=\"back\" type=\"button\" title=\"One event back (left)\">Back</butt\
+on>\n<button id=\"forward\" type=\"button\" title=\"One event forward (right)\">Forward</button>\n\
+<button id=\"last\" type=\"button\" title=\"Last moment (End)\">Last</button>\n<button id=\"play\"\
+\x20type=\"button\" title=\"Go forward by itself\">Play</button>\n<label>Events a second\n<select \
+id=\"speed\"><option>1</option><option selected>2</option><option>5</option><option>20</option></s\
+elect>\n</label>\n<label class=\"wide\"><span class=\"unseen\">Moment</span><input id=\"slider\" t\
+ype=\"range\" min=\"0\" value=\"0\"></label>\n<label><input id=\"follow\" type=\"checkbox\" checke\
+d> Follow the event</label>\n</div>\n<p class=\"now\" aria-live=\"polite\"><span id=\"position\"><\
+/span> <span id=\"event\"></span></p>\n<ul id=\"notes\" aria-label=\"What it did\"></ul>\n<nav id=\
+\"map\" aria-label=\"Places\"></nav>\n</header>\n<main>\n<div id=\"places\"></div>\n<aside aria-la\
+belledby=\"flights-title\">\n<h2 id=\"flights-title\">Frames in flight</h2>\n<ul id=\"flights\"></\
+ul>\n<details class=\"help\">\n<summary>Listing</summary>\n<pre id=\"listing\"></pre>\n</details>\
+\n<details class=\"help\">\n<summary>Keys and marks</summary>\n<p>Left and right: one event. Page \
+up and page down: ten. Home and End: the first and the last moment.\nThe address ends in the numbe\
+r of the event, as <code>#12</code>.</p>\n<p class=\"new\">A bar, a tint and bold type: this event\
+\x20changed it.</p>\n<p><b class=\"pointer\">&#9654;</b> is the next instruction of an activity, a\
+nd a bar marks the one that this event did;\na broken bar: it had nothing to do.\n<code>f3 at 1, k\
+ey 2</code> is the activity with key 2 of place 1, which began with function 3.</p>\n</details>\n<\
+/aside>\n</main>\n<noscript><p>This page needs JavaScript. It loads nothing from anywhere.</p></no\
+script>\n<script id=\"run\" type=\"application/json\">\n";

@@ -3,3 +3,5 @@ pub mod EventsCounted
 pub mod HeapLines
 pub mod FrameTypes
 pub mod FourLines
+pub mod WholeText
+pub mod MostSteps

@@ -1,9 +1,12 @@
 -- The lines that tell what was in a run. Their numbers stand one below another.
-use Rattle.std.specs.Prelude.{ℕ, ◌+◌, nat_lt, List, [], ◌∷◌, ◌++◌, Option, Some, None, length, codes, decimal, if◌then◌else◌}
+use Rattle.std.specs.Prelude.{ℕ, zero, suc, ◌+◌, ◌==◌, nat_lt, List, [], ◌∷◌, ◌++◌, Option, Some, None, length, codes, decimal, slice_get, if◌then◌else◌}
 use Rattle.x10_heap.specs.Heaps.{HeapState}
 use Rattle.x10_place.specs.StandsFor.{PlaceState}
+use Rattle.x10_verify.specs.Certified.{Certified}
+use Rattle.x10_stats.specs.Counts.{CountsState}
 use Rattle.x10_stats.specs.declared.stats.Stats.{Stats}
 use Rattle.x10_stats.specs.declared.stats.Volume.{Volume}
+use Rattle.x10_stats.specs.declared.tally.Begun.{Begun}
 
 -- a name, with the spaces that stand behind it, and a number
 abbrev pub line : List ℕ → ℕ → List ℕ
@@ -33,6 +36,11 @@ end_lines backs reports = line (codes "Back frames:              ") backs.frames
 abbrev pub pad : ℕ → List ℕ
 pad place = if nat_lt place 10 then codes " " else []
 
+-- the spaces before the first number of a function's line
+abbrev pub function_pad : ℕ → List ℕ
+function_pad f = if nat_lt f 10 then codes "   "
+    else (if nat_lt f 100 then codes "  " else codes " ")
+
 -- a line of a place
 abbrev pub place_line : ℕ → List ℕ → ℕ → List ℕ
 place_line place name n = codes "place "
@@ -55,6 +63,35 @@ abbrev pub all_heap_lines : ℕ → List PlaceState → List ℕ
 all_heap_lines place [] = []
 all_heap_lines place (p ∷ rest) = heap_lines place p.heap ++ all_heap_lines (place + 1) rest
 
-abbrev pub stats_lines : Stats → List PlaceState → List ℕ
-stats_lines s places = event_lines s
-    ++ (begin_lines s.spawns s.shifts ++ (end_lines s.backs s.reports ++ all_heap_lines 0 places))
+-- a line of a function with which so many activities began, of which one made the most steps, and none may make more than its
+-- bound
+abbrev pub function_line : ℕ → Begun → ℕ → List ℕ
+function_line f g bound = codes "function "
+    ++ (decimal f ++ (codes ", activities:"
+    ++ (function_pad f ++ (decimal g.activities ++ (codes ", most steps: "
+    ++ (decimal g.most ++ (codes ", bound: " ++ (decimal bound ++ 10 ∷ []))))))))
+
+-- none where no activity began with it
+abbrev pub begun_lines : ℕ → Begun → ℕ → List ℕ
+begun_lines f g bound = if g.activities == 0 then [] else function_line f g bound
+
+abbrev pub any_begun_lines : ℕ → Option Begun → Option ℕ → List ℕ
+any_begun_lines f None bound = []
+any_begun_lines f (Some g) None = []
+any_begun_lines f (Some g) (Some bound) = begun_lines f g bound
+
+-- those of the first so many functions
+abbrev pub function_lines : List Begun → List ℕ → ℕ → List ℕ
+function_lines functions bounds zero = []
+function_lines functions bounds (suc f) = function_lines functions bounds f
+    ++ any_begun_lines f (slice_get functions f) (slice_get bounds f)
+
+abbrev pub all_function_lines : List Begun → Certified → List ℕ
+all_function_lines functions c = function_lines functions c.bounds (length c.program.functions)
+
+-- the lines that tell what was in a run of a module, which left the places so
+abbrev pub stats_lines : Certified → CountsState → List PlaceState → List ℕ
+stats_lines c s places = event_lines s.stats
+    ++ (begin_lines s.stats.spawns s.stats.shifts
+    ++ (end_lines s.stats.backs s.stats.reports
+    ++ (all_function_lines s.tally.functions c ++ all_heap_lines 0 places)))

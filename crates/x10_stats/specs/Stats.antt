@@ -1,17 +1,11 @@
 -- What is counted of a run. Each number goes up to the greatest one of 64 bits.
-use Rattle.std.specs.Prelude.{◌≡◌, ◌≢◌, ℕ, zero, suc, ◌+◌, ◌-◌, ◌≤◌, ◌==◌, max, min, true, List, [], ◌∷◌, ◌++◌, Option, Some, None, length, slice_get, if◌then◌else◌}
+use Rattle.std.specs.Prelude.{ℕ, zero, suc, ◌+◌, ◌-◌, ◌==◌, max, min, List, Option, Some, None, length, slice_get, if◌then◌else◌}
 use Rattle.x10_flights.specs.Flights.{Flight, FlightsState, flight_of}
-use Rattle.x10_model.specs.Worlds.{World}
-use Rattle.x10_model.specs.declared.event.Event.{Event}
 use Rattle.x10_place.specs.StandsFor.{PlaceState}
-use Rattle.x10_world.specs.Happenings.{HasDone}
 use Rattle.x10_world.specs.Living.{live_at}
-use Rattle.x10_world.specs.Runs.{StopsAt}
-use Rattle.x10_world.specs.StandsForWorld.{WorldState, StandsForWorld, MakesEvent}
+use Rattle.x10_world.specs.StandsForWorld.{WorldState}
 use Rattle.x10_world.specs.declared.done.Done.{Done}
 use Rattle.x10_world.specs.declared.done.Done.TheVariants as done
-use Rattle.x10_world.specs.declared.rounds.Unfinished.{Unfinished}
-use Rattle.x10_world.specs.declared.rounds.Unfinished.TheVariants as halt
 use Rattle.x10_stats.specs.declared.stats.Stats.{Stats}
 use Rattle.x10_stats.specs.declared.stats.Volume.{Volume}
 
@@ -97,27 +91,3 @@ counted s x (done.Taken to) = with_stays (record s { deliveries = sum s.deliveri
 -- how many events were counted
 abbrev pub all_events : Stats → ℕ
 all_events s = s.steps + s.idle + s.deliveries
-
--- These events, one after another, from one state of a world to another, and what was counted before and after them: each is an
--- event of every world of the machine that the state before it stands for.
-pub data Counted (s : Stats) (x : WorldState) : List Event → Stats → WorldState → Type 0 where
-  begins : Counted s x [] s x
-  goes_on : (y z : WorldState) (events : List Event) (t : Stats) (event : Event) (did : Done)
-      → Counted s x events t y → HasDone y event did z
-      → ((w : World) → StandsForWorld y w → MakesEvent y w event z)
-      → Counted s x (events ++ event ∷ []) (counted t z did) z
-
--- at most so many events were made and counted, and the world goes on
-pub record HasCounted (s : Stats) (x : WorldState) (limit : ℕ) (t : Stats)
-    (y : WorldState) : Type 0 where
-  pub events : List Event
-  pub few : length events ≤ limit
-  pub counts : Counted s x events t y
-  pub goes : y.stopped ≢ true
-
--- Why no more were made: as many were as were allowed; the next one was refused; or memory for the lists was.
-abbrev pub IsCut : Stats → WorldState → ℕ → Stats → WorldState → Unfinished → Type 0
-IsCut s x limit t y halt.Limit = (h : HasCounted s x limit t y) × (length h.events ≡ limit)
-IsCut s x limit t y halt.Memory = HasCounted s x limit t y
-IsCut s x limit t y (halt.Stop why) = (state : WorldState) × HasCounted s x limit t state
-    × ((event : Event) × StopsAt state event why y)

@@ -1,5 +1,5 @@
 //! Laws of what is counted. Each function does nothing: its contract is a law, and the check proves it.
-ghost use Rattle.x10_stats.specs.Laws.{EachIsCountedOnce, FramesAreCountedByType};
+ghost use Rattle.x10_stats.specs.Laws.{EachIsCountedOnce, FramesAreCountedByType, NoneMadeMoreSteps};
 
 /// Each event is counted once: as a step, as idle, or as a delivery.
 pub fn each_is_counted_once()
@@ -9,4 +9,9 @@ pub fn each_is_counted_once()
 /// A frame is counted by its type, with the bytes that spell it.
 pub fn frames_are_counted_by_type()
     ensures { FramesAreCountedByType }
+{}
+
+/// No activity has made more steps than there were.
+pub fn none_made_more_steps()
+    ensures { NoneMadeMoreSteps }
 {}

@@ -1,11 +1,16 @@
-//! What was in a run: its events, the frames that it put out, and what its places have in the end.
+//! What was in a run: its events, the frames that it put out, the steps of its activities, and what its places have in the end.
 #![tactic(auto)]
 
+mod activity;
+mod counts;
 pub mod laws;
 mod lines;
 mod run;
+mod sight;
 mod stats;
+mod tally;
 
+pub use counts::Counts;
 pub use lines::stats_text;
 pub use run::count_run;
 pub use stats::{Stats, Volume};

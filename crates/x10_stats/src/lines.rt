@@ -1,23 +1,34 @@
 //! The lines that tell what was in a run.
-ghost use Rattle.std.specs.Prelude.{◌≡◌, ◌++◌, IfOk, OnOk, slice_get};
+ghost use Rattle.std.specs.Prelude.{◌≡◌, ◌++◌, IfOk, OnOk, Some, slice_get};
 ghost use Rattle.std.specs.String.{string_bytes};
-ghost use Rattle.x10_stats.specs.Lines.{all_heap_lines, any_heap_lines, begin_lines, end_lines, event_lines, heap_lines, line, pad, place_line, stats_lines};
+ghost use Rattle.x10_stats.specs.Lines.{all_function_lines, all_heap_lines, any_begun_lines, any_heap_lines, begin_lines, begun_lines, end_lines, event_lines, function_line, function_pad, heap_lines, line, pad, place_line, stats_lines};
 
+use crate::counts::Counts;
 use crate::stats::{Stats, Volume};
+use crate::tally::Begun;
 use std::alloc::{AllocError, Global};
 use std::fmt::Write;
 use x10_heap::Heap;
+use x10_verify::Verified;
 use x10_world::World;
 
-/// What was counted in a run, and what the heap of each place has in a world, a number on each line behind its name. Linear in
-/// the places.
-pub fn stats_text(alloc: Global, stats: &Stats, world: &World) -> Result<String, AllocError>
-    ensures { IfOk result (λ text. string_bytes text ≡ stats_lines stats.now world.now.places) }
+/// What was counted in a run of a module, a number on each line behind its name; a line for each function with which activities
+/// began; and what the heap of each place has in a world. Linear in the functions and the places.
+pub fn stats_text(
+    alloc: Global,
+    verified: &Verified,
+    counts: &Counts,
+    world: &World,
+) -> Result<String, AllocError>
+    ensures { IfOk result (λ text. string_bytes text
+        ≡ stats_lines verified.now counts.now world.now.places) }
 {
     let mut text = String::new(alloc);
+    let stats = counts.stats();
     push_events(&mut text, stats)?;
     push_begins(&mut text, stats.spawns, stats.shifts)?;
     push_ends(&mut text, stats.backs, stats.reports)?;
+    push_functions(&mut text, verified, counts.tally().functions())?;
     push_heaps(&mut text, world)?;
     Ok(text)
 }
@@ -59,6 +70,74 @@ fn push_line(text: &mut String, name: &str, number: u64) -> Result<(), AllocErro
     ensures { OnOk result (string_bytes text.new ≡ string_bytes text.old ++ line name.now number) }
 {
     writeln!(text, "{name}{number}")
+}
+
+/// How many activities began with each function, and how many steps they made.
+fn push_functions(
+    text: &mut String,
+    verified: &Verified,
+    functions: &[Begun],
+) -> Result<(), AllocError>
+    ensures { OnOk result (string_bytes text.new
+        ≡ string_bytes text.old ++ all_function_lines functions.now verified.now) }
+{
+    for f in 0..verified.image().functions() {
+        push_function_at(text, f, functions, verified.bound(f))?;
+    }
+    Ok(())
+}
+
+/// The line of a function with a bound, if it has one.
+fn push_function_at(
+    text: &mut String,
+    f: usize,
+    functions: &[Begun],
+    bound: u64,
+) -> Result<(), AllocError>
+    ensures { OnOk result (string_bytes text.new
+        ≡ string_bytes text.old ++ any_begun_lines f (slice_get functions.now f) (Some bound)) }
+{
+    match functions.get(f) {
+        Some(begun) => push_begun(text, f, *begun, bound),
+        None => Ok(()),
+    }
+}
+
+/// The line of a function with which activities began, if some did.
+fn push_begun(text: &mut String, f: usize, begun: Begun, bound: u64) -> Result<(), AllocError>
+    ensures { OnOk result (string_bytes text.new
+        ≡ string_bytes text.old ++ begun_lines f begun bound) }
+{
+    if begun.activities == 0 {
+        return Ok(());
+    }
+    push_function(text, f, begun, bound)
+}
+
+/// The line of a function.
+fn push_function(text: &mut String, f: usize, begun: Begun, bound: u64) -> Result<(), AllocError>
+    ensures { OnOk result (string_bytes text.new
+        ≡ string_bytes text.old ++ function_line f begun bound) }
+{
+    let pad = function_pad_of(f);
+    let Begun { activities, most } = begun;
+    writeln!(
+        text,
+        "function {f}, activities:{pad}{activities}, most steps: {most}, bound: {bound}"
+    )
+}
+
+/// The spaces before the first number of a function's line.
+fn function_pad_of(f: usize) -> &'static str
+    ensures { result.now ≡ function_pad f }
+{
+    if f < 10 {
+        "   "
+    } else if f < 100 {
+        "  "
+    } else {
+        " "
+    }
 }
 
 /// What the heaps of all places have.

@@ -3,4 +3,4 @@
 
 mod task;
 
-pub use task::{Color, Schedule, Task, Verb};
+pub use task::{Color, Schedule, Task, Verb, Window};

@@ -1,3 +1,5 @@
+ghost use Rattle.std.specs.Prelude.{◌≡◌, None};
+
 /// What a command does with a file.
 #[derive(Clone, Copy, Debug, PartialEq, Eq)]
 pub enum Verb {
@@ -46,6 +48,24 @@ pub enum Schedule {
     Newest,
 }
 
+/// Which events of a run are shown, by their numbers: the first one of a run is 1.
+#[derive(Clone, Copy, Debug, PartialEq, Eq)]
+pub struct Window {
+    /// The first one that is shown.
+    pub from: u64,
+    /// The last one that is shown, and that is made; left out, the last one of the run.
+    pub to: Option<u64>,
+}
+
+impl Window {
+    /// All events of a run.
+    pub fn all() -> Window
+        ensures { result ≡ record { from = 1; to = None } }
+    {
+        Window { from: 1, to: None }
+    }
+}
+
 /// Whether what is said about a fault has colors.
 #[derive(Clone, Copy, Debug, PartialEq, Eq)]
 pub enum Color {
@@ -76,6 +96,8 @@ pub struct Task<'a> {
     pub seed: Option<u64>,
     /// How many runs there are, by the seeds 1, 2 and so on. No other verb than `Runs` looks at it.
     pub seeds: u64,
+    /// Which events are shown. Only for `trace` and `draw`.
+    pub window: Window,
     /// Whether a run has a thread for each place. No other verb looks at it.
     pub threads: bool,
     /// Whether what is printed is JSON, for other programs. Only for `list`, `check`, `run` and `audit`.

@@ -1,6 +1,6 @@
 use std::alloc::Global;
 use std::test::*;
-use x10_task::{Color, Schedule, Task, Verb};
+use x10_task::{Color, Schedule, Task, Verb, Window};
 use x10_usage::parse;
 
 /// The words of a command line, the program's name first.
@@ -26,6 +26,7 @@ fn words(rt: HostRuntime) -> Result<(), Fail> {
         schedule: Schedule::Rounds,
         seed: None,
         seeds: 100,
+        window: Window::all(),
         threads: false,
         json: false,
         stats: false,

@@ -4,6 +4,8 @@
 #[cfg(test)]
 mod drawing;
 #[cfg(test)]
+mod drawn;
+#[cfg(test)]
 mod orders;
 #[cfg(test)]
 mod programs;

@@ -17,9 +17,14 @@ use Rattle.x10_task.specs.declared.task.Schedule.TheVariants as order
 use Rattle.x10_task.specs.declared.task.Task.{Task}
 use Rattle.x10_task.specs.declared.task.Verb.{Verb}
 use Rattle.x10_task.specs.declared.task.Verb.TheVariants as verb
+use Rattle.x10_task.specs.declared.task.Window.{Window}
 
 abbrev pub IsOneTo : ℕ → ℕ → Type 0
 IsOneTo most n = (1 ≤ n) × (n ≤ most)
+
+-- a number of an event that isn't before another one
+abbrev pub IsUpTo : ℕ → ℕ → Type 0
+IsUpTo from to = (from ≤ to) × (to ≤ 1000000000)
 
 -- the commands that write a file
 abbrev pub has_output : Verb → Bool
@@ -37,6 +42,14 @@ is_run verb.TraceVerbose = true
 is_run verb.Draw = true
 is_run verb.DrawPage = true
 is_run _ = false
+
+-- the commands that show the events of a run
+abbrev pub is_shown : Verb → Bool
+is_shown verb.Trace = true
+is_shown verb.TraceVerbose = true
+is_shown verb.Draw = true
+is_shown verb.DrawPage = true
+is_shown _ = false
 
 -- the commands that may have a number of places
 abbrev pub has_places : Verb → Bool
@@ -67,8 +80,8 @@ may_have_log verb.Draw threads = true
 may_have_log verb.DrawPage threads = true
 may_have_log _ threads = false
 
--- A task has what its command takes: a file to write, a log, a number of places, threads, a schedule, a number of seeds; the
--- numbers are in their ranges. A log that is read says itself how many places there are, and which events, in which order. Of a
+-- A task has what its command takes: a file to write, a log, a number of places, threads, a schedule, a number of seeds, which
+-- events are shown; the numbers are in their ranges. A log that is read says itself how many places there are, and which events, in which order. Of a
 -- frame it is always said how many there are.
 pub record IsTask (t : Task) : Type 0 where
   pub output : is_some t.output ≡ has_output t.verb
@@ -78,6 +91,9 @@ pub record IsTask (t : Task) : Type 0 where
   pub runs : t.verb ≢ verb.Runs → t.seeds ≡ 100
   pub seeded : t.verb ≡ verb.Runs → t.schedule ≡ order.Rounds
   pub run : is_run t.verb ≡ false → t.limit ≡ 1000000
+  pub from : IsOneTo 1000000000 t.window.from
+  pub to : IfSome t.window.to (IsUpTo t.window.from)
+  pub shown : is_shown t.verb ≡ false → t.window ≡ record { from = 1; to = None }
   pub placed : has_places t.verb ≡ false → t.places ≡ None
   pub frame : t.verb ≡ verb.Frame → is_some t.places ≡ true
   pub threads : t.threads ≡ true → t.verb ≡ verb.Run
@@ -148,6 +164,13 @@ pub record IsFlagIn (text : Option (List ℕ)) (is_there : Bool) : Type 0 where
   pub yes : text ≡ Some (codes "true") → is_there ≡ true
   pub no : text ≡ Some (codes "false") → is_there ≡ false
 
+-- which events are shown, by what was found in the words
+pub record IsWindowFound (found : Found) (w : Window) : Type 0 where
+  pub asked : Option ℕ
+  pub is_asked : IsNumberIn 64 (one_text found (codes "from")) asked
+  pub from_is : w.from ≡ unwrap_or asked 1
+  pub to_is : IsNumberIn 64 (one_text found (codes "to")) w.to
+
 -- a task is what was found in the words: its command, the names of its files, its numbers and its options. What was found are
 -- the rows of the command that the parse met. Where the words don't say whether faults are explained, the first argument does
 pub record IsReadFrom (explain : Bool) (m : ArgMatches) (t : Task) : Type 0 where
@@ -172,6 +195,7 @@ pub record IsReadFrom (explain : Bool) (m : ArgMatches) (t : Task) : Type 0 wher
   pub asked_seeds : Option ℕ
   pub are_asked : IsNumberIn 64 (one_text found (codes "seeds")) asked_seeds
   pub seeds_is : t.seeds ≡ unwrap_or asked_seeds 100
+  pub window_is : IsWindowFound found t.window
   pub threads_is : IsFlagIn (one_text found (codes "threads")) t.threads
   pub json_is : IsFlagIn (one_text found (codes "json")) t.json
   pub stats_is : IsFlagIn (one_text found (codes "stats")) t.stats

@@ -99,6 +99,7 @@ Exit status:
 pub const TRACE: &str = "Example:
   x10p trace examples/seven.x10 --limit 100
   x10p trace examples/seven.x10 --verbose
+  x10p trace examples/seven.x10 --from 2 --to 3
   x10p run examples/seven.x10 --threads --log seven.log
   x10p trace examples/seven.x10 --log seven.log
 
@@ -112,6 +113,7 @@ Exit status:
 pub const DRAW: &str = "Example:
   x10p draw examples/seven.x10 seven.svg
   x10p draw examples/seven.x10 seven.html
+  x10p draw examples/seven.x10 seven.html --from 2 --to 3
   x10p draw examples/seven.x10 seven.svg --log seven.log
 
 Exit status:

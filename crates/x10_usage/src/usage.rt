@@ -1,16 +1,17 @@
 //! What the words of a command line ask for.
-ghost use Rattle.std.specs.Prelude.{◌≡◌, ◌≢◌, IfOk, IfErr, IfSome, IsTrue, None, true, false, is_some, option_map};
+ghost use Rattle.std.specs.Prelude.{◌≡◌, ◌≢◌, IfOk, IfErr, IfSome, IsTrue, option_map};
+ghost use Rattle.clap.specs.Matches.{found_of};
 ghost use Rattle.clap.specs.Words.{kind_of};
-ghost use Rattle.x10_usage.specs.Tasks.{IsOneTo, IsReadFrom, IsTask, color_named, explained_by, has_output, schedule_named, verb_named};
+ghost use Rattle.x10_usage.specs.Tasks.{IsReadFrom, IsTask, IsWindowFound, color_named, explained_by, schedule_named, verb_named};
 ghost use Rattle.x10_usage.specs.Tasks as tasks;
 ghost use Rattle.x10_usage.specs.Usages.{IsAnswer, text_of};
 
-use crate::words::{MOST_EVENTS, MOST_SEEDS, program};
+use crate::checks::is_task;
+use crate::words::program;
 use clap::error::ErrorKind;
 use clap::{ArgMatches, Command, Error};
 use std::alloc::{AllocError, Global};
-use x10_model::limits::MOST_PLACES;
-use x10_task::{Color, Schedule, Task, Verb};
+use x10_task::{Color, Schedule, Task, Verb, Window};
 
 /// What is printed instead of doing something: help that was asked for, or what is wrong with the words.
 #[derive(Debug, Drop)]
@@ -35,10 +36,10 @@ impl Usage {
 }
 
 /// How many events a run has at most, where the words don't say so.
-const EVENTS: u64 = 1_000_000;
+pub(crate) const EVENTS: u64 = 1_000_000;
 
 /// How many runs there are, where the words don't say so.
-const SEEDS: u64 = 100;
+pub(crate) const SEEDS: u64 = 100;
 
 /// How the name of a page ends.
 const PAGE: &str = ".html";
@@ -142,6 +143,9 @@ fn why_not(task: &Task) -> &'static str {
     if task.log.is_some() {
         return "with --log the log says the places and the order";
     }
+    if task.window != Window::all() {
+        return "--to is before --from";
+    }
     "these options don't go together"
 }
 
@@ -161,12 +165,23 @@ fn task_in<'a>(matches: &ArgMatches<'a>, explain: bool) -> Option<Task<'a>>
         schedule: schedule_of(matches.get_str("schedule"), seed.is_some()),
         seed,
         seeds: matches.get_one("seeds").unwrap_or(SEEDS),
+        window: window_of(matches),
         threads: matches.get_flag("threads"),
         json: matches.get_flag("json"),
         stats: matches.get_flag("stats"),
         explain: is_explained(matches.get_str("explain"), explain),
         color: color_of(matches.get_str("color")),
     })
+}
+
+/// Which events are shown: where the words don't say so, all.
+fn window_of(matches: &ArgMatches) -> Window
+    ensures { IsWindowFound (found_of matches.now) result }
+{
+    Window {
+        from: matches.get_one("from").unwrap_or(1),
+        to: matches.get_one("to"),
+    }
 }
 
 /// Whether the file to write is a page, by the end of its name.
@@ -234,157 +249,5 @@ fn color_of(name: Option<&str>) -> Color
         Some("always") => Color::Always,
         Some("never") => Color::Never,
         _ => Color::Auto,
-    }
-}
-
-/// Whether a task has what its command takes, with its numbers in their ranges.
-fn is_task(task: &Task) -> bool
-    ensures { IsTrue result → IsTask task.now }
-{
-    writes_as_asked(task)
-        && is_place_count(task.places)
-        && is_event_count(task.limit)
-        && is_seed_count(task)
-        && has_numbers_as_asked(task)
-        && threads_are_for_run(task)
-        && is_schedule(task)
-        && json_is_for_few(task)
-        && stats_are_for_run(task)
-        && has_log_as_asked(task)
-}
-
-fn writes_as_asked(task: &Task) -> bool
-    ensures { IsTrue result → is_some task.now.output ≡ has_output task.now.verb }
-{
-    match task.verb {
-        Verb::Asm | Verb::Draw | Verb::DrawPage => task.output.is_some(),
-        _ => task.output.is_none(),
-    }
-}
-
-fn is_place_count(places: Option<u16>) -> bool
-    ensures { IsTrue result → IfSome places (IsOneTo 64) }
-{
-    match places {
-        Some(places) => places >= 1 && places <= MOST_PLACES,
-        None => true,
-    }
-}
-
-fn is_event_count(limit: u64) -> bool
-    ensures { IsTrue result → IsOneTo 1000000000 limit }
-{
-    limit >= 1 && limit <= MOST_EVENTS
-}
-
-/// There is at least one run, and how many there are is said only where there are several.
-fn is_seed_count(task: &Task) -> bool
-    ensures seeds { IsTrue result → IsOneTo 1000000 task.now.seeds }
-    ensures runs { IsTrue result → task.now.verb ≢ Verb.Runs → task.now.seeds ≡ 100 }
-{
-    task.seeds >= 1
-        && task.seeds <= MOST_SEEDS
-        && (task.seeds == SEEDS || matches!(task.verb, Verb::Runs))
-}
-
-fn is_run(verb: Verb) -> bool
-    ensures { result ≡ tasks.is_run verb }
-{
-    matches!(
-        verb,
-        Verb::Run | Verb::Runs | Verb::Trace | Verb::TraceVerbose | Verb::Draw | Verb::DrawPage
-    )
-}
-
-/// A limit of events is for what runs, and so is a number of places, which a frame has too, and always.
-fn has_numbers_as_asked(task: &Task) -> bool
-    ensures run { IsTrue result → tasks.is_run task.now.verb ≡ false → task.now.limit ≡ 1000000 }
-    ensures placed { IsTrue result → tasks.has_places task.now.verb ≡ false
-        → task.now.places ≡ None }
-    ensures frame { IsTrue result → task.now.verb ≡ Verb.Frame → is_some task.now.places ≡ true }
-{
-    match task.verb {
-        Verb::Run | Verb::Runs => true,
-        Verb::Trace | Verb::TraceVerbose | Verb::Draw | Verb::DrawPage => true,
-        Verb::Frame => task.places.is_some() && task.limit == EVENTS,
-        _ => has_no_numbers(task),
-    }
-}
-
-fn has_no_numbers(task: &Task) -> bool
-    ensures { IsTrue result → (task.now.places ≡ None) × (task.now.limit ≡ 1000000) }
-{
-    task.places.is_none() && task.limit == EVENTS
-}
-
-fn threads_are_for_run(task: &Task) -> bool
-    ensures { IsTrue result → task.now.threads ≡ true → task.now.verb ≡ Verb.Run }
-{
-    !task.threads || matches!(task.verb, Verb::Run)
-}
-
-fn json_is_for_few(task: &Task) -> bool
-    ensures { IsTrue result → task.now.json ≡ true → tasks.has_json task.now.verb ≡ true }
-{
-    !task.json
-        || matches!(
-            task.verb,
-            Verb::List | Verb::Check | Verb::Run | Verb::Audit
-        )
-}
-
-fn stats_are_for_run(task: &Task) -> bool
-    ensures { IsTrue result → task.now.stats ≡ true → (task.now.verb ≡ Verb.Run)
-        × (task.now.threads ≡ false) }
-{
-    !task.stats || (matches!(task.verb, Verb::Run) && !task.threads)
-}
-
-/// An audit reads a log, a trace or a picture may be of one, and a run with threads may write one.
-fn has_log_as_asked(task: &Task) -> bool
-    ensures log { IsTrue result → is_some task.now.log ≡ true
-        → tasks.may_have_log task.now.verb task.now.threads ≡ true }
-    ensures audit { IsTrue result → task.now.verb ≡ Verb.Audit → is_some task.now.log ≡ true }
-    ensures logged { IsTrue result → is_some task.now.log ≡ true → task.now.verb ≢ Verb.Run
-        → (task.now.places ≡ None) × (task.now.limit ≡ 1000000)
-        × (task.now.schedule ≡ Schedule.Rounds) }
-{
-    if !log_says_the_rest(task) {
-        return false;
-    }
-    match task.verb {
-        Verb::Audit => task.log.is_some(),
-        Verb::Run => task.log.is_none() || task.threads,
-        Verb::Trace | Verb::TraceVerbose | Verb::Draw | Verb::DrawPage => true,
-        _ => task.log.is_none(),
-    }
-}
-
-/// Where a log is read, it says how many places there are, and which events happen in which order.
-fn log_says_the_rest(task: &Task) -> bool
-    ensures { IsTrue result → is_some task.now.log ≡ true → task.now.verb ≢ Verb.Run
-        → (task.now.places ≡ None) × (task.now.limit ≡ 1000000)
-        × (task.now.schedule ≡ Schedule.Rounds) }
-{
-    match task.schedule {
-        _ if task.log.is_none() || matches!(task.verb, Verb::Run) => true,
-        Schedule::Rounds => has_no_numbers(task),
-        _ => false,
-    }
-}
-
-/// A schedule is for a run in this thread, and a seed for a random one.
-fn is_schedule(task: &Task) -> bool
-    ensures schedule { IsTrue result → task.now.schedule ≢ Schedule.Rounds
-        → (tasks.is_run task.now.verb ≡ true) × (task.now.threads ≡ false) }
-    ensures runs { IsTrue result → task.now.verb ≡ Verb.Runs → task.now.schedule ≡ Schedule.Rounds }
-    ensures seed { IsTrue result → is_some task.now.seed ≡ true
-        → task.now.schedule ≡ Schedule.Random }
-{
-    let runs_here = is_run(task.verb) && !matches!(task.verb, Verb::Runs) && !task.threads;
-    match task.schedule {
-        Schedule::Random => runs_here,
-        Schedule::Rounds => task.seed.is_none(),
-        Schedule::Oldest | Schedule::Newest => runs_here && task.seed.is_none(),
     }
 }

@@ -6,7 +6,7 @@ use x10_faults::CAUSES;
 use x10_model::limits::MOST_PLACES;
 
 /// The greatest number of events that can be asked for.
-pub(crate) const MOST_EVENTS: u64 = 1_000_000_000;
+pub const MOST_EVENTS: u64 = 1_000_000_000;
 
 /// The greatest number of runs that can be asked for.
 pub(crate) const MOST_SEEDS: u64 = 1_000_000;
@@ -191,6 +191,8 @@ fn audit<'a>(alloc: Global) -> Result<Command<'a>, AllocError> {
 fn trace<'a>(alloc: Global) -> Result<Command<'a>, AllocError> {
     let about = "Verify a module, run it, and print what happens, event by event";
     run_words(alloc, "trace", about, help::TRACE)?
+        .arg(from(alloc))?
+        .arg(to(alloc))?
         .arg(log_to_read(alloc)?)?
         .arg(verbose(alloc, "With notes on each event in words, behind its lines"))
 }
@@ -199,6 +201,8 @@ fn draw<'a>(alloc: Global) -> Result<Command<'a>, AllocError> {
     let about =
         "Verify a module, run it, and draw what happens as an SVG document, or as a page in HTML";
     run_words(alloc, "draw", about, help::DRAW)?
+        .arg(from(alloc))?
+        .arg(to(alloc))?
         .arg(log_to_read(alloc)?)?
         .arg(output(
             alloc,
@@ -324,6 +328,27 @@ fn seeds<'a>(alloc: Global) -> Arg<'a> {
         .default_value("100")
         .allow_negative_numbers(true)
         .value_parser(value_parser!(u64).range(1..=MOST_SEEDS as i64))
+}
+
+fn from<'a>(alloc: Global) -> Arg<'a> {
+    Arg::new(alloc, "from")
+        .long("from")
+        .value_name("N")
+        .help("The first event to show, 1 to 1000000000; those before it are made and not shown")
+        .default_value("1")
+        .allow_negative_numbers(true)
+        .value_parser(value_parser!(u64).range(1..=MOST_EVENTS as i64))
+}
+
+fn to<'a>(alloc: Global) -> Arg<'a> {
+    Arg::new(alloc, "to")
+        .long("to")
+        .value_name("N")
+        .help(
+            "The last event to show; the run is made no further [default: the last one of the run]",
+        )
+        .allow_negative_numbers(true)
+        .value_parser(value_parser!(u64).range(1..=MOST_EVENTS as i64))
 }
 
 fn run_words<'a>(

@@ -5,6 +5,7 @@ use std::fmt::Write as _;
 use std::io::{self, ErrorKind, IsTerminal, Write};
 use x10_files::colored;
 use x10_task::{Color, Task, Verb};
+use x10_usage::MOST_EVENTS;
 
 /// Prints what was said about a fault on standard error, in colors where they are wanted. Where there is no memory for colors,
 /// there are none.
@@ -77,11 +78,23 @@ fn bounds_in_words(alloc: Global, text: &str) -> Result<String, AllocError> {
     for line in text.lines() {
         match line.split_once(' ') {
             Some((function, "1")) => writeln!(out, "function {function}: at most 1 step")?,
+            Some((function, bound)) if is_above_limit(bound) => writeln!(
+                out,
+                "function {function}: at most {bound} steps; --limit permits {MOST_EVENTS} events at most"
+            )?,
             Some((function, bound)) => writeln!(out, "function {function}: at most {bound} steps")?,
             None => writeln!(out, "{line}")?,
         }
     }
     Ok(out)
+}
+
+/// Whether a bound is above the greatest limit of a run, which then may meet it, whatever is asked for.
+fn is_above_limit(bound: &str) -> bool {
+    match bound.parse::<u64>() {
+        Ok(bound) => bound > MOST_EVENTS,
+        Err(_) => false,
+    }
 }
 
 /// Whether a stream has colors: as the words say, or else on a terminal, where the environment has no NO_COLOR, and a TERM other

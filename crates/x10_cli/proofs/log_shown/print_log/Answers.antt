@@ -53,16 +53,16 @@ pub returns-clause-done : goal.returns-clause-done
 returns-clause-done w = λ c.
     log_shown c.show_log.result c.args.bytes.now c.args.log.now c.in_ok-verified.verified c.in_ok-read.read.places
     c.in_ok-read.read.turns.items c.in_ok-world.world (w.O.Write.contents c.args.out.now) (w.O.Write.contents c.show_log.new.out)
-    c.in_ok-read.ensures.plays c.in_ok-world.ensures.opened c.args.verb
-    (subst (λ (ts : List Turn). OnOk c.show_log.result (ShowsAll c.args.verb c.in_ok-world.world (events_in ts)
+    c.in_ok-read.ensures.plays c.in_ok-world.ensures.opened c.args.task.now.verb c.args.task.now.window
+    (subst (λ (ts : List Turn). OnOk c.show_log.result (ShowsAll c.args.task.now.verb c.args.task.now.window c.in_ok-world.world (events_in ts)
     (w.O.Write.contents c.args.out.now) (w.O.Write.contents c.show_log.new.out))) c.deref.ensures.value c.show_log.ensures.shown)
 
 pub returns-clause-stopped : goal.returns-clause-stopped
 returns-clause-stopped w = λ c.
     log_shown_some c.show_log.result c.args.bytes.now c.args.log.now c.in_ok-verified.verified c.in_ok-read.read.places
     c.in_ok-read.read.turns.items c.in_ok-world.world (w.O.Write.contents c.args.out.now) (w.O.Write.contents c.show_log.new.out)
-    c.in_ok-read.ensures.plays c.in_ok-world.ensures.opened c.args.verb
+    c.in_ok-read.ensures.plays c.in_ok-world.ensures.opened c.args.task.now.verb c.args.task.now.window
     (subst (λ (ts : List Turn). IfErr c.show_log.result (λ e. (e ≡ fault.File)
     ⊎ Keeps (w.O.Write.contents c.args.out.now) (w.O.Write.contents c.show_log.new.out)
-    ⊎ ShowsFirst c.args.verb c.in_ok-world.world (events_in ts) (w.O.Write.contents c.args.out.now) (w.O.Write.contents c.show_log.new.out)))
+    ⊎ ShowsFirst c.args.task.now.verb c.args.task.now.window c.in_ok-world.world (events_in ts) (w.O.Write.contents c.args.out.now) (w.O.Write.contents c.show_log.new.out)))
     c.deref.ensures.value c.show_log.ensures.some)

@@ -13,7 +13,7 @@ pub returns-in-Err-clause-status : goal.returns-in-Err-clause-status
 returns-in-Err-clause-status w = λ c. status_told _ c.in-Err.fault c.refuse.ensures.status
 
 pub returns-in-Ok-clause-done : goal.returns-in-Ok-clause-done
-returns-in-Ok-clause-done w = λ c. λ e. shown_kept c.args.task.now.verb c.args.bytes.now c.args.log.now
+returns-in-Ok-clause-done w = λ c. λ e. shown_kept c.args.task.now.verb c.args.task.now.window c.args.bytes.now c.args.log.now
     (w.O.Write.contents c.args.out.now) (w.O.Write.contents c.print_log-done.new.out)
     (w.O.Write.contents c.flush.new.self) c.in-Ok.ensures.done c.flush.ensures.bytes
 
@@ -25,7 +25,7 @@ returns-in-Err-clause-left_refused w = λ c. λ s.
 
 pub returns-in-Err-clause-left_stopped : goal.returns-in-Err-clause-left_stopped
 returns-in-Err-clause-left_stopped w = λ c. λ s.
-    some_shown_kept c.args.task.now.verb c.args.bytes.now c.args.log.now
+    some_shown_kept c.args.task.now.verb c.args.task.now.window c.args.bytes.now c.args.log.now
     (w.O.Write.contents c.args.out.now) (w.O.Write.contents c.print_log-done.new.out) (w.O.Write.contents c.flush.new.self)
     (c.in-Err.ensures.stopped (same_status c.refuse.result 2 c.in-Err.fault c.refuse.ensures.status s (λ x. omega (arith, x))))
     c.flush.ensures.bytes

@@ -1,7 +1,8 @@
+use Rattle.std.proofs.Common.{inl}
 use Rattle.std.proofs.lemmas.Result.{err_from_is_err_and}
 use Rattle.x10_cli.proofs.UndoneLemmas.{kept_self}
 use Rattle.x10_cli.proofs.RunLemmas.{done_by, due_unless}
-use Rattle.x10_cli.proofs.ShowLemmas.{can_be_run, can_be_shown, leaves_kept, run_shown, run_shown_some}
+use Rattle.x10_cli.proofs.ShowLemmas.{all_asked, all_printed, asked_left, can_be_run, can_be_shown, leaves_shown, some_asked, some_left}
 use Rattle.x10_cli.specs.Answers.{CanBeDone}
 use Rattle.x10_cli.proofs.shown.print_shown.Goals as goal
 
@@ -20,8 +21,9 @@ returns-in_err-verified-clause-refused w = λ c.
 pub returns-in_err-verified-clause-stopped : goal.returns-in_err-verified-clause-stopped
 returns-in_err-verified-clause-stopped w = λ c.
     let told = err_from_is_err_and c.from_residual.result c.from_residual.ensures.1 in
-    rw told.1 (λ s. leaves_kept c.args.task.now.verb c.args.task.now.json c.args.task.now.threads c.args.task.now.places c.args.bytes.now
-    (w.O.Write.contents c.args.out.now) (w.O.Write.contents c.args.out.now) c.requires (kept_self (w.O.Write.contents c.args.out.now)))
+    rw told.1 (λ s. leaves_shown c.args.task.now.verb c.args.task.now.json c.args.task.now.threads c.args.task.now.window
+    c.args.task.now.places c.args.bytes.now (w.O.Write.contents c.args.out.now) (w.O.Write.contents c.args.out.now) c.requires
+    (inl (kept_self (w.O.Write.contents c.args.out.now))))
 
 pub returns-in_err-world-clause-due : goal.returns-in_err-world-clause-due
 returns-in_err-world-clause-due w = λ c.
@@ -37,8 +39,9 @@ returns-in_err-world-clause-refused w = λ c.
 pub returns-in_err-world-clause-stopped : goal.returns-in_err-world-clause-stopped
 returns-in_err-world-clause-stopped w = λ c.
     let told = err_from_is_err_and c.from_residual-in_err-world.result c.from_residual-in_err-world.ensures.1 in
-    rw told.1 (λ s. leaves_kept c.args.task.now.verb c.args.task.now.json c.args.task.now.threads c.args.task.now.places c.args.bytes.now
-    (w.O.Write.contents c.args.out.now) (w.O.Write.contents c.args.out.now) c.requires (kept_self (w.O.Write.contents c.args.out.now)))
+    rw told.1 (λ s. leaves_shown c.args.task.now.verb c.args.task.now.json c.args.task.now.threads c.args.task.now.window
+    c.args.task.now.places c.args.bytes.now (w.O.Write.contents c.args.out.now) (w.O.Write.contents c.args.out.now) c.requires
+    (inl (kept_self (w.O.Write.contents c.args.out.now))))
 
 pub returns-clause-due : goal.returns-clause-due
 returns-clause-due w = λ c. due_unless c.show_all.result c.args.task.now.places c.args.bytes.now c.show_all.ensures.status
@@ -48,14 +51,38 @@ returns-clause-done w = λ c. done_by c.show_all.result (CanBeDone c.args.task.n
     (can_be_shown c.args.task.now.verb c.args.task.now.places c.args.bytes.now c.requires
     (c.in_ok-verified.verified, c.in_ok-verified.ensures.found, c.in_ok-world.ensures.permitted))
 
+pub returns-in_err-verified-clause-left : goal.returns-in_err-verified-clause-left
+returns-in_err-verified-clause-left w = λ c.
+    let told = err_from_is_err_and c.from_residual.result c.from_residual.ensures.1 in
+    rw told.1 (λ s. asked_left c.args.task.now.verb c.args.task.now.window c.args.task.now.places c.args.bytes.now
+    (w.O.Write.contents c.args.out.now) (w.O.Write.contents c.args.out.now) (inl (kept_self (w.O.Write.contents c.args.out.now))))
+
+pub returns-in_err-world-clause-left : goal.returns-in_err-world-clause-left
+returns-in_err-world-clause-left w = λ c.
+    let told = err_from_is_err_and c.from_residual-in_err-world.result c.from_residual-in_err-world.ensures.1 in
+    rw told.1 (λ s. asked_left c.args.task.now.verb c.args.task.now.window c.args.task.now.places c.args.bytes.now
+    (w.O.Write.contents c.args.out.now) (w.O.Write.contents c.args.out.now) (inl (kept_self (w.O.Write.contents c.args.out.now))))
+
 pub returns-clause-printed : goal.returns-clause-printed
 returns-clause-printed w = λ c.
-    run_shown c.show_all.result c.args.task.now.verb c.args.task.now.json c.args.task.now.threads c.args.task.now.places c.args.bytes.now
-    c.in_ok-verified.verified c.in_ok-world.world (w.O.Write.contents c.args.out.now) (w.O.Write.contents c.show_all.new.out) c.requires
-    c.in_ok-verified.ensures.found c.in_ok-world.ensures.opened c.show_all.new.world c.show_all.ensures.ended c.show_all.ensures.shown
+    all_printed c.show_all.result c.args.task.now.verb c.args.task.now.window c.args.task.now.places c.args.bytes.now
+    c.in_ok-verified.verified c.in_ok-world.world (w.O.Write.contents c.args.out.now) (w.O.Write.contents c.show_all.new.out)
+    c.in_ok-verified.ensures.found c.in_ok-world.ensures.opened c.args.task.now.json c.show_all.new.world c.requires c.show_all.ensures.shown
+
+pub returns-clause-shown : goal.returns-clause-shown
+returns-clause-shown w = λ c.
+    all_asked c.show_all.result c.args.task.now.verb c.args.task.now.window c.args.task.now.places c.args.bytes.now
+    c.in_ok-verified.verified c.in_ok-world.world (w.O.Write.contents c.args.out.now) (w.O.Write.contents c.show_all.new.out)
+    c.in_ok-verified.ensures.found c.in_ok-world.ensures.opened c.show_all.new.world c.show_all.ensures.shown
 
 pub returns-clause-stopped : goal.returns-clause-stopped
 returns-clause-stopped w = λ c.
-    run_shown_some c.show_all.result c.args.task.now.verb c.args.task.now.json c.args.task.now.threads c.args.task.now.places c.args.bytes.now
-    c.in_ok-verified.verified c.in_ok-world.world (w.O.Write.contents c.args.out.now) (w.O.Write.contents c.show_all.new.out) c.requires
+    some_left c.show_all.result c.args.task.now.verb c.args.task.now.window c.args.task.now.places c.args.bytes.now
+    c.in_ok-verified.verified c.in_ok-world.world (w.O.Write.contents c.args.out.now) (w.O.Write.contents c.show_all.new.out)
+    c.in_ok-verified.ensures.found c.in_ok-world.ensures.opened c.args.task.now.json c.args.task.now.threads c.requires c.show_all.ensures.some
+
+pub returns-clause-left : goal.returns-clause-left
+returns-clause-left w = λ c.
+    some_asked c.show_all.result c.args.task.now.verb c.args.task.now.window c.args.task.now.places c.args.bytes.now
+    c.in_ok-verified.verified c.in_ok-world.world (w.O.Write.contents c.args.out.now) (w.O.Write.contents c.show_all.new.out)
     c.in_ok-verified.ensures.found c.in_ok-world.ensures.opened c.show_all.ensures.some

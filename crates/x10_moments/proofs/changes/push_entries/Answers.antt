@@ -1,4 +1,4 @@
-use Rattle.std.proofs.Common.{◌≡◌, ◌++◌, length, slice_get, refl, ap, ◌∙◌}
+use Rattle.std.proofs.Common.{◌++◌, length, slice_get, refl, ap, ◌∙◌}
 use Rattle.std.proofs.lemmas.Option.{slice_get_read}
 use Rattle.std.specs.String.{string_bytes}
 use Rattle.x10_moments.specs.Changes.{bytes_of, entry_if}

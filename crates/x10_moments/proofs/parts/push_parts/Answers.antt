@@ -1,4 +1,4 @@
-use Rattle.std.proofs.Common.{◌++◌, List, ℕ, codes}
+use Rattle.std.proofs.Common.{◌++◌, codes}
 use Rattle.std.specs.String.{string_bytes}
 use Rattle.x10_moments.specs.Changes.{bytes_of}
 use Rattle.x10_moments.specs.Moments.{list_text, parts_text}

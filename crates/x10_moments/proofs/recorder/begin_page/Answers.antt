@@ -15,5 +15,6 @@ returns c =
           (subst (λ k. AreLeast before.program k) (sym c.begin.ensures.kinds) c.in_ok-recorder.ensures.least);
       shown = subst (λ m. AreShown m r.kinds places r.places) (sym c.begin.ensures.program)
           (subst (λ k. AreShown before.program k places r.places) (sym c.begin.ensures.kinds) c.in_ok-text.ensures.places);
-      text_is = c.in_ok-text.ensures.text ∙ ap (λ m. page_front m (length places) ++ first_moment r.places) (sym c.begin.ensures.program);
+      text_is = c.in_ok-text.ensures.text
+          ∙ ap (λ m. page_front m (length places) c.args.before c.args.world.now.flights ++ first_moment r.places) (sym c.begin.ensures.program);
     }

@@ -1,8 +1,8 @@
 use Rattle.std.proofs.Common.{[], ◌∷◌, ◌++◌, refl, arith}
 use Rattle.x10_world.specs.declared.rounds.Unfinished.TheVariants as halt
 use Rattle.x10_world.proofs.RunCounts.{err_if, runs_self, runs_on}
-use Rattle.x10_stats.specs.Stats.Counted.{begins}
-use Rattle.x10_stats.proofs.EventsCounted.{counts_more, one_longer, stop_told}
+use Rattle.x10_stats.specs.Counts.Counted.{begins}
+use Rattle.x10_stats.proofs.EventsCounted.{counts_more, one_longer, unmade_cut}
 use Rattle.x10_stats.proofs.run.count_run.Goals as goal
 
 pub returns-in_err-going-clause-runs : goal.returns-in_err-going-clause-runs
@@ -20,7 +20,7 @@ loop-made-init c = record {
   runs = runs_self c.args.world.now;
   events = [];
   count = refl;
-  counts = begins;
+  counted = begins;
   goes = c.in_ok-going.ensures.ok;
 }
 
@@ -29,7 +29,7 @@ returns-in_err-next-clause-cut c = λ on. err_if c.from_residual-in_err-next.res
     (record {
       events = c.loop-made.invariant.events;
       few = (let count = c.loop-made.invariant.count in omega (arith, count, c.loop-made-test.true));
-      counts = c.loop-made.invariant.counts;
+      counts = c.loop-made.invariant.counted;
       goes = c.loop-made.invariant.goes;
     })
 
@@ -40,14 +40,14 @@ returns-in_err-count_event-clause-runs c = runs_on c.args.world.now c.loop-made.
 pub returns-in_err-count_event-clause-cut : goal.returns-in_err-count_event-clause-cut
 returns-in_err-count_event-clause-cut c = λ on.
     let count = c.loop-made.invariant.count in
-    err_if c.from_residual-in_err-count_event.result (halt.Stop c.in_err-count_event.field-0.0) _ c.from_residual-in_err-count_event.ensures.1
-    (stop_told c.args.stats.now c.args.world.now c.args.limit c.loop-made.stats c.count_event.new.stats c.loop-made.world c.count_event.new.world
-    c.unwrap_or-event.result c.in_err-count_event.field-0.0 (record {
+    err_if c.from_residual-in_err-count_event.result c.in_err-count_event.field-0.0 _ c.from_residual-in_err-count_event.ensures.1
+    (unmade_cut c.args.counts.now c.args.world.now c.args.limit c.loop-made.counts c.count_event.new.counts c.loop-made.world
+    c.count_event.new.world c.unwrap_or-event.result c.in_err-count_event.field-0.0 (record {
       events = c.loop-made.invariant.events;
       few = omega (arith, count, c.loop-made-test.true);
-      counts = c.loop-made.invariant.counts;
+      counts = c.loop-made.invariant.counted;
       goes = c.loop-made.invariant.goes;
-    }) c.in_err-count_event.ensures.still c.in_err-count_event.ensures.stops)
+    }) c.in_err-count_event.ensures.unmade)
 
 pub returns-then-closed-clause-runs : goal.returns-then-closed-clause-runs
 returns-then-closed-clause-runs c = runs_on c.args.world.now c.loop-made.world c.count_event.new.world c.loop-made.invariant.runs
@@ -58,8 +58,8 @@ returns-then-closed-clause-counted c = λ on.
     let longer = one_longer c.loop-made.invariant.events c.unwrap_or-event.result c.loop-made.made c.loop-made.invariant.count in record {
       events = c.loop-made.invariant.events ++ c.unwrap_or-event.result ∷ [];
       few = omega (arith, longer, c.loop-made-test.true);
-      counts = counts_more c.args.stats.now c.args.world.now c.loop-made.world c.count_event.new.world c.loop-made.invariant.events
-          c.loop-made.stats c.count_event.new.stats c.unwrap_or-event.result c.loop-made.invariant.counts c.in_ok-count_event.ensures.done
+      counts = counts_more c.args.counts.now c.args.world.now c.loop-made.world c.count_event.new.world c.loop-made.invariant.events
+          c.loop-made.counts c.count_event.new.counts c.unwrap_or-event.result c.loop-made.invariant.counted c.in_ok-count_event.ensures.done
           c.in_ok-count_event.ensures.made;
       goes = c.in_ok-count_event.ensures.goes;
     }
@@ -72,8 +72,8 @@ loop-made-preserved c = record {
   runs = runs_on c.args.world.now c.loop-made.world c.count_event.new.world c.loop-made.invariant.runs c.count_event.ensures.runs;
   events = c.loop-made.invariant.events ++ c.unwrap_or-event.result ∷ [];
   count = one_longer c.loop-made.invariant.events c.unwrap_or-event.result c.loop-made.made c.loop-made.invariant.count;
-  counts = counts_more c.args.stats.now c.args.world.now c.loop-made.world c.count_event.new.world c.loop-made.invariant.events
-      c.loop-made.stats c.count_event.new.stats c.unwrap_or-event.result c.loop-made.invariant.counts c.in_ok-count_event.ensures.done
+  counted = counts_more c.args.counts.now c.args.world.now c.loop-made.world c.count_event.new.world c.loop-made.invariant.events
+      c.loop-made.counts c.count_event.new.counts c.unwrap_or-event.result c.loop-made.invariant.counted c.in_ok-count_event.ensures.done
       c.in_ok-count_event.ensures.made;
   goes = c.in_ok-count_event.ensures.goes;
 }
@@ -84,7 +84,7 @@ returns-clause-cut c = λ on.
       record {
         events = c.loop-made.invariant.events;
         few = omega (arith, count, c.loop-made-test.false, c.loop-made.auto.made-end);
-        counts = c.loop-made.invariant.counts;
+        counts = c.loop-made.invariant.counted;
         goes = c.loop-made.invariant.goes;
       },
       omega (arith, count, c.loop-made-test.false, c.loop-made.auto.made-end),

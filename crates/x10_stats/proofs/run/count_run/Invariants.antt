@@ -1,7 +1,7 @@
 use Rattle.std.specs.Prelude.{◌≡◌, ◌≢◌, true, List, length}
 use Rattle.x10_model.specs.declared.event.Event.{Event}
 use Rattle.x10_world.specs.Rounds.{RunsTo}
-use Rattle.x10_stats.specs.Stats.{Counted}
+use Rattle.x10_stats.specs.Counts.{Counted}
 use Rattle.x10_stats.proofs.run.count_run.Given as goal
 
 abbrev pub invariant-loop-made : goal.invariant-loop-made
@@ -9,6 +9,6 @@ invariant-loop-made l = record {
   runs : RunsTo l.initial.world l.world;
   events : List Event;
   count : length events ≡ l.made;
-  counts : Counted l.initial.stats l.initial.world events l.stats l.world;
+  counted : Counted l.initial.counts l.initial.world events l.counts l.world;
   goes : l.world.stopped ≢ true;
 }

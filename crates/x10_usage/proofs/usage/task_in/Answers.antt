@@ -36,6 +36,7 @@ returns c = record {
       (one_text (found_of c.in_ok-name.matches.now) (codes "seeds")) c.get_one-3.result
       (λ bs r g. g.0) c.get_one-3.ensures.none c.get_one-3.ensures.value;
   seeds_is = c.unwrap_or-2.ensures;
+  window_is = c.window_of.ensures;
   threads_is = record { none = c.get_flag-2.ensures.none; yes = c.get_flag-2.ensures.value; no = c.get_flag-2.ensures.other };
   json_is = record { none = c.get_flag-3.ensures.none; yes = c.get_flag-3.ensures.value; no = c.get_flag-3.ensures.other };
   stats_is = record { none = c.get_flag-4.ensures.none; yes = c.get_flag-4.ensures.value; no = c.get_flag-4.ensures.other };

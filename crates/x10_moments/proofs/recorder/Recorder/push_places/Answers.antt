@@ -1,7 +1,7 @@
 use Rattle.std.proofs.Common.{◌++◌, ap, append-nil, arith, length, refl, sym, ◌∙◌}
 use Rattle.x10_moments.specs.Moments.{first_places}
 use Rattle.std.specs.String.{string_bytes}
-use Rattle.x10_moments.proofs.Moments.{all_shown, count_more, next_shown, none_shown, text_more}
+use Rattle.x10_moments.proofs.Moments.{count_more, next_shown, none_shown, text_more}
 use Rattle.x10_moments.proofs.recorder.Recorder.push_places.Goals as goal
 
 pub loop-id-preserved : goal.loop-id-preserved

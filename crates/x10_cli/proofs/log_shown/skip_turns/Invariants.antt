@@ -1,0 +1,13 @@
+use Rattle.std.specs.Prelude.{◌≡◌, ◌≢◌, true, ◌++◌, List, length}
+use Rattle.x10_model.specs.declared.event.Event.{Event}
+use Rattle.x10_cli.specs.Events.{Skips}
+use Rattle.x10_cli.proofs.log_shown.skip_turns.Given as goal
+
+abbrev pub invariant-loop-made : goal.invariant-loop-made
+invariant-loop-made l = record {
+  events : List Event;
+  skips : Skips l.initial.world events l.world;
+  count : length events ≡ l.made;
+  split : events ++ l.events ≡ l.initial.events;
+  goes : l.world.stopped ≢ true;
+}

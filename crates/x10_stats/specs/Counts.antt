@@ -1,0 +1,77 @@
+-- What is counted of whole runs.
+use Rattle.std.specs.Prelude.{◌≡◌, ◌≢◌, ℕ, ◌≤◌, true, List, [], ◌∷◌, ◌++◌, length}
+use Rattle.x10_kinds.specs.declared.stop.Stop.{Stop}
+use Rattle.x10_model.specs.Worlds.{World}
+use Rattle.x10_model.specs.declared.event.Event.{Event}
+use Rattle.x10_verify.specs.Certified.{Certified}
+use Rattle.x10_world.specs.Happenings.{HasDone}
+use Rattle.x10_world.specs.Runs.{StopsAt}
+use Rattle.x10_world.specs.StandsForWorld.{WorldState, StandsForWorld, MakesEvent}
+use Rattle.x10_world.specs.declared.done.Done.{Done}
+use Rattle.x10_world.specs.declared.rounds.Unfinished.{Unfinished}
+use Rattle.x10_world.specs.declared.rounds.Unfinished.TheVariants as halt
+use Rattle.x10_stats.specs.Stats.{at_first, counted}
+use Rattle.x10_stats.specs.Tallies.{TallyState, ready, sight_of, tallied, tally_at_first}
+use Rattle.x10_stats.specs.declared.stats.Stats.{Stats}
+
+-- what is counted of the events of a run, and of its activities
+pub record CountsState : Type 0 where
+  pub stats : Stats
+  pub tally : TallyState
+
+-- before the first event
+abbrev pub counts_at_first : Certified → WorldState → CountsState
+counts_at_first c x = record { stats = at_first x; tally = tally_at_first c x }
+
+-- with what an event did more, from the world before it to the one after it
+abbrev pub counted_with : CountsState → WorldState → Event → Done → WorldState → CountsState
+counted_with s x event did y = record {
+  stats = counted s.stats y did;
+  tally = tallied s.tally x event did y;
+}
+
+-- the same numbers, with room for the stay that an event may begin
+abbrev pub prepared : CountsState → WorldState → Event → CountsState
+prepared s x event = record s { tally = ready s.tally (sight_of x event) }
+
+-- These events, one after another, from one state of a world to another, and what was counted before and after them: each is an
+-- event of every world of the machine that the state before it stands for.
+pub data Counted (s : CountsState) (x : WorldState) : List Event → CountsState → WorldState
+    → Type 0 where
+  begins : Counted s x [] s x
+  goes_on : (y z : WorldState) (events : List Event) (t : CountsState) (event : Event) (did : Done)
+      → Counted s x events t y → HasDone y event did z
+      → ((w : World) → StandsForWorld y w → MakesEvent y w event z)
+      → Counted s x (events ++ event ∷ []) (counted_with t y event did z) z
+
+-- at most so many events were made and counted, and the world goes on
+pub record HasCounted (s : CountsState) (x : WorldState) (limit : ℕ) (t : CountsState)
+    (y : WorldState) : Type 0 where
+  pub events : List Event
+  pub few : length events ≤ limit
+  pub counts : Counted s x events t y
+  pub goes : y.stopped ≢ true
+
+-- the event behind those that were counted was refused
+pub record IsStopped (s : CountsState) (x : WorldState) (limit : ℕ) (t : CountsState)
+    (why : Stop) (y : WorldState) : Type 0 where
+  pub state : WorldState
+  pub counts : CountsState
+  pub has : HasCounted s x limit counts state
+  pub event : Event
+  pub stops : StopsAt state event why y
+  pub same : t ≡ prepared counts state event
+
+-- Why no more were made: as many were as were allowed; memory was refused, for the lists or for what is counted; or the next
+-- event was.
+abbrev pub IsCut : CountsState → WorldState → ℕ → CountsState → WorldState → Unfinished → Type 0
+IsCut s x limit t y halt.Limit = (h : HasCounted s x limit t y) × (length h.events ≡ limit)
+IsCut s x limit t y halt.Memory = HasCounted s x limit t y
+IsCut s x limit t y (halt.Stop why) = IsStopped s x limit t why y
+
+-- an event was not made: memory for what is counted was refused, or it was
+abbrev pub IsUnmade : CountsState → WorldState → Event → CountsState → WorldState → Unfinished
+    → Type 0
+IsUnmade s x event t y halt.Limit = ⊥
+IsUnmade s x event t y halt.Memory = (t ≡ s) × (y ≡ x)
+IsUnmade s x event t y (halt.Stop why) = (t ≡ prepared s x event) × StopsAt x event why y
