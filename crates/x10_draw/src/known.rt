@@ -52,8 +52,10 @@ impl<'a> Known<'a> {
     /// Whether an instruction takes what the function that it names gives.
     fn takes(&self, instr: Instr) -> bool {
         let image = self.verified.image();
+        let operands = form(instr.op);
         let function = instr.x as usize;
-        matches!(instr.op, Op::Call | Op::At)
+        operands.a == Operand::Result
+            && operands.x == Operand::Function
             && function < image.functions()
             && image.signature(function).result().is_some()
     }

@@ -113,12 +113,12 @@ fn push_state(
     if !place.is_idle(key) {
         return Ok(());
     }
-    let Some(number) = stay.finishes().last() else {
-        return text.push_str(", kept out by an atomic region");
-    };
-    if op != Op::Fine {
+    if op == Op::Atomb {
         return text.push_str(", kept out by an atomic region");
     }
+    let Some(number) = stay.finishes().last() else {
+        return Ok(());
+    };
     let finish = Finish {
         home: id,
         number: *number,
