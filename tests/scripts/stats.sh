@@ -1,6 +1,7 @@
 # What --stats tells of a run is what its trace has, by each schedule, also where the run is at its limit; and the run prints what
-# it prints without it. Activities are followed in the trace by what its frames say, and by the keys of their stays. For a heap it
-# is enough that what is made is counted: see tests/stats.
+# it prints without it. Activities are followed in the trace by what its frames say, and by the keys of their stays; where no
+# schedule is asked for, the events are those of rounds, as PROGRAM.md says it. For a heap it is enough that what is made is
+# counted: see tests/stats.
 top="$(cd "$(dirname "$0")/../.." && pwd)"
 source "$(dirname "$0")/common"
 
@@ -35,6 +36,7 @@ class Followed:
 
     def __init__(self, listing):
         self.code, self.begun, self.stays, self.posted = [], [], {}, {}
+        self.rounds = 0
         self.used, self.free = Counter(), {}
         for words in map(str.split, listing.splitlines()):
             if words[0] == "func":
@@ -69,20 +71,34 @@ class Followed:
             self.free[place].append(key)
 
     def deliver(self, number, to):
-        frame, activity = self.posted.pop(number)
+        frame, activity, _ = self.posted.pop(number)
         if frame[1] == 1:
             self.begin(to, self.activity(int.from_bytes(frame[12:14], "big")))
         elif frame[1] == 2:
             self.begin(to, activity)
 
-    def follow(self, trace):
+    def in_rounds(self):
+        """Which events come by rounds, as (place, key) or (frame, place): a place takes in what is in flight to it, and then
+        steps its keys."""
+        while True:
+            self.rounds += 1
+            for place in range(64):
+                yield from [(it, place) for it in sorted(self.posted) if self.posted[it][2] == place]
+                yield from sorted(it for it in self.stays if it[0] == place)
+
+    def follow(self, trace, has_rounds):
+        """Whether the events come by rounds, where they are to."""
+        order, rises = self.in_rounds(), True
         for sort, *words in map(str.split, trace.splitlines()):
+            if sort == "P":
+                self.posted[int(words[0])] = bytes.fromhex(words[3]), self.moved["activity"], int(words[2])
+                continue
+            rises = rises and (not has_rounds or next(order) == (int(words[0]), int(words[1])))
             if sort == "S":
                 self.step(*map(int, words[:4]), words[4])
-            elif sort == "P":
-                self.posted[int(words[0])] = bytes.fromhex(words[3]), self.moved["activity"]
             elif sort == "D":
                 self.deliver(*map(int, words))
+        return rises
 
     def lines(self, bounds):
         """What is told of the functions with which activities began."""
@@ -109,12 +125,16 @@ def differs(path, words):
     lines = found[2][len(fault):]
     listing, bounds = module_of(path)
     followed = Followed(listing)
-    followed.follow(trace)
+    has_rounds = "--schedule" not in words
+    if not followed.follow(trace, has_rounds):
+        return "the events don't come by rounds"
     wanted = list(followed.lines(bounds))
     functions = [line for line in lines if line.startswith("function")]
     if functions != wanted:
         return f"{functions}, and by the trace {wanted}"
     numbers = dict(line.split(":") for line in lines if line not in functions)
+    if has_rounds and int(numbers["rounds"]) != followed.rounds:
+        return f"rounds: {numbers['rounds']}, and by the trace {followed.rounds}"
     for name, number in counted_in(trace).items():
         if int(numbers.get(name, -1)) != number:
             return f"{name}: {numbers.get(name)}, and the trace has {number}"

@@ -1,4 +1,5 @@
 pub mod Answered
+pub mod LineParts
 pub mod LinesPrinted
 pub mod UndoneLemmas
 pub mod Dues

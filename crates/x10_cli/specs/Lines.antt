@@ -1,6 +1,6 @@
 -- Lines that the program prints.
 use Rattle.json.specs.Print.{quoted}
-use Rattle.std.specs.Prelude.{ℕ, ◌+◌, Bool, true, false, List, [], ◌∷◌, ◌++◌, codes, decimal}
+use Rattle.std.specs.Prelude.{◌≡◌, ℕ, ◌≤◌, ◌+◌, Bool, true, false, List, [], ◌∷◌, ◌++◌, codes, decimal, drop}
 use Rattle.std.specs.List.{flat_map}
 use Rattle.std.specs.Fmt.{signed_decimal}
 use Rattle.x10_model.specs.Places as machine
@@ -15,7 +15,15 @@ shown (Words text) = text
 abbrev pub numbered : ℕ → machine.Line → List ℕ
 numbered place line = decimal place ++ (codes ": " ++ (shown line ++ 10 ∷ []))
 
--- the same as a JSON object in a line, with the number or the text as a member
+-- a line that ends with a line feed, in which a place and what is behind it are from `start` to `end`
+pub record HasFront (place : ℕ) (line : List ℕ) (start end : ℕ) : Type 0 where
+  pub before : start ≤ end
+  pub room : 22 ≤ end
+  pub within : end ≤ 42
+  pub front : drop start line ≡ decimal place ++ (codes ": " ++ drop end line)
+  pub last : drop 42 line ≡ 10 ∷ []
+
+-- a line of a place as a JSON object, with the number or the text as a member
 abbrev pub object_line : ℕ → machine.Line → List ℕ
 object_line place (Number z) = codes "{\"place\":"
     ++ (decimal place ++ (codes ",\"number\":" ++ (signed_decimal z ++ codes "}\n")))

@@ -3,12 +3,18 @@
 use crate::commands::{opened, verified_in};
 use crate::schedule::schedule_of;
 use std::alloc::{AllocError, Global};
+use std::fmt::Write;
 use x10_bounds::bounds;
 use x10_image::ImageView;
 use x10_schedule::run_by;
+use x10_stats::{Counts, count_run};
 use x10_survey::survey;
 use x10_task::Task;
-use x10_world::Unfinished;
+use x10_verify::Verified;
+use x10_world::{Unfinished, World};
+
+/// The most events of a run that is made once more event by event, so that its idle ones are counted.
+const MOST_COUNTED: u64 = 10_000_000;
 
 /// How many events the limit permits, and who lives after them.
 pub(crate) fn of_events(alloc: Global, task: &Task, bytes: &[u8]) -> Result<String, AllocError> {
@@ -30,12 +36,41 @@ fn push_living(
     let Ok(mut world) = opened(alloc, task.places, &verified) else {
         return Err(AllocError);
     };
-    let Err(Unfinished::Limit) = run_by(alloc, &mut world, schedule_of(task), task.limit) else {
-        return Err(AllocError);
-    };
+    if task.limit <= MOST_COUNTED {
+        push_idle(alloc, text, task, &verified, &mut world)?;
+    } else {
+        remake(alloc, task, &mut world)?;
+    }
     let living = survey(alloc, &verified, &world)?;
     text.push_str("Who lives then:\n")?;
     text.push_str(living.as_str())
+}
+
+/// Makes the run, and doesn't count.
+fn remake(alloc: Global, task: &Task, world: &mut World) -> Result<(), AllocError> {
+    match run_by(alloc, world, schedule_of(task), task.limit) {
+        Err(Unfinished::Limit) => Ok(()),
+        _ => Err(AllocError),
+    }
+}
+
+/// Makes the run, and pushes how many of its events were idle.
+fn push_idle(
+    alloc: Global,
+    text: &mut String,
+    task: &Task,
+    verified: &Verified,
+    world: &mut World,
+) -> Result<(), AllocError> {
+    let mut counts = Counts::new(alloc, verified, world)?;
+    let limit = task.limit;
+    let Err(Unfinished::Limit) =
+        count_run(alloc, world, schedule_of(task), limit, &mut counts)
+    else {
+        return Err(AllocError);
+    };
+    let idle = counts.stats().idle;
+    writeln!(text, "Idle events: {idle} of {limit}.")
 }
 
 /// How many events the limit permits, and main has steps.

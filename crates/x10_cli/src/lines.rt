@@ -1,16 +1,16 @@
 //! The lines of places, for people or as JSON.
-ghost use Rattle.std.specs.Prelude.{false, ◌≡◌, ◌≢◌, ◌⊎◌, IfErr, IfOk, OnOk, map};
+ghost use Rattle.std.specs.Prelude.{false, true, ◌≡◌, ◌≢◌, ◌⊎◌, IfErr, IfOk, OnOk, map};
 ghost use Rattle.std.specs.Io.KnownBytes.{Appends, Keeps};
 ghost use Rattle.std.specs.String.{string_bytes};
 ghost use Rattle.json.specs.Print.{quoted};
 ghost use Rattle.x10_place.specs.StandsFor.{line_as};
 ghost use Rattle.x10_world.specs.Endings.{lines_at, lines_in};
-ghost use Rattle.x10_cli.specs.Lines.{all_lines, line_in, numbered, object_line, place_lines};
+ghost use Rattle.x10_cli.specs.Lines.{all_lines, object_line, place_lines};
 ghost use Rattle.x10_cli.specs.declared.fault.Fault.TheVariants as fault;
 ghost use Rattle.x10_cli.specs.Answers.{status_of};
 
 use crate::fault::Fault;
-use crate::numbered::{write_int, write_text};
+use crate::numbered::PlaceLines;
 use std::alloc::{AllocError, Global};
 use std::io::Write;
 use x10_place::Line;
@@ -115,40 +115,41 @@ fn write_lines<O: Write>(
         (place_lines json place (map line_as lines.now))) }
     ensures err { json ≡ false → IfErr result (λ e. e ≡ fault.File) }
 {
+    if json {
+        write_objects(alloc, place, lines, out)
+    } else {
+        write_numbered(place, lines, out)
+    }
+}
+
+/// Writes the lines of a place for people.
+fn write_numbered<O: Write>(place: usize, lines: &[Line], out: &mut O) -> Result<(), Fault>
+    ensures ok { OnOk result (Appends (O.contents out.old) (O.contents out.new)
+        (place_lines false place (map line_as lines.now))) }
+    ensures err { IfErr result (λ e. e ≡ fault.File) }
+{
+    let mut numbered = PlaceLines::new(place);
     for line in lines {
-        write_line(alloc, place, line, json, out)?;
+        match line {
+            Line::Int(number) => numbered.write_int(*number, out)?,
+            Line::Text(text) => numbered.write_text(text, out)?,
+        }
     }
     Ok(())
 }
 
-/// Writes a line of a place.
-fn write_line<O: Write>(
+/// Writes the lines of a place as JSON objects.
+fn write_objects<O: Write>(
     alloc: Global,
     place: usize,
-    line: &Line,
-    json: bool,
+    lines: &[Line],
     out: &mut O,
 ) -> Result<(), Fault>
-    ensures ok { OnOk result (Appends (O.contents out.old) (O.contents out.new)
-        (line_in json place (line_as line.now))) }
-    ensures err { json ≡ false → IfErr result (λ e. e ≡ fault.File) }
+    ensures { OnOk result (Appends (O.contents out.old) (O.contents out.new)
+        (place_lines true place (map line_as lines.now))) }
 {
-    if json {
-        write_object(alloc, place, line, out)
-    } else {
-        write_numbered(place, line, out)
-    }
-}
-
-/// Writes a line of a place for people.
-fn write_numbered<O: Write>(place: usize, line: &Line, out: &mut O) -> Result<(), Fault>
-    ensures ok { OnOk result (Appends (O.contents out.old) (O.contents out.new)
-        (numbered place (line_as line.now))) }
-    ensures err { IfErr result (λ e. e ≡ fault.File) }
-{
-    match line {
-        Line::Int(number) => write_int(place, *number, out)?,
-        Line::Text(text) => write_text(place, text, out)?,
+    for line in lines {
+        write_object(alloc, place, line, out)?;
     }
     Ok(())
 }

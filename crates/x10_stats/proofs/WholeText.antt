@@ -17,16 +17,17 @@ five_parts a b c d e start t u v w x empty one two three four last =
     last ∙ ap (λ bs. bs ++ e) fourth ∙ append_assoc ((a ++ b) ++ c) d e ∙ append_assoc (a ++ b) c (d ++ e) ∙ append_assoc a b (c ++ (d ++ e))
 
 -- what was counted of events, and what is told of functions
-told : Certified → List PlaceState → Stats → List Begun → List ℕ
-told m places s functions = event_lines s
+told : Certified → List PlaceState → Stats → ℕ → List Begun → List ℕ
+told m places s rounds functions = event_lines s rounds
     ++ (begin_lines s.spawns s.shifts ++ (end_lines s.backs s.reports ++ (all_function_lines functions m ++ all_heap_lines 0 places)))
 
-pub whole_text : (m : Certified) (k : CountsState) (places : List PlaceState) (s : Stats) (functions : List Begun) (start t u v w x : List ℕ)
-    → s ≡ k.stats → functions ≡ k.tally.functions → start ≡ [] → t ≡ start ++ event_lines s → u ≡ t ++ begin_lines s.spawns s.shifts
+pub whole_text : (m : Certified) (k : CountsState) (places : List PlaceState) (s : Stats) (rounds : ℕ) (functions : List Begun) (start t u v w x : List ℕ)
+    → s ≡ k.stats → rounds ≡ k.pace.rounds → functions ≡ k.tally.functions → start ≡ [] → t ≡ start ++ event_lines s rounds → u ≡ t ++ begin_lines s.spawns s.shifts
     → v ≡ u ++ end_lines s.backs s.reports → w ≡ v ++ all_function_lines functions m → x ≡ w ++ all_heap_lines 0 places → x ≡ stats_lines m k places
 unfolding told
-whole_text m k places s functions start t u v w x same listed empty one two three four last =
-    let parts : x ≡ told m places s functions =
-    five_parts (event_lines s) (begin_lines s.spawns s.shifts) (end_lines s.backs s.reports) (all_function_lines functions m)
+whole_text m k places s rounds functions start t u v w x same round listed empty one two three four last =
+    let parts : x ≡ told m places s rounds functions =
+    five_parts (event_lines s rounds) (begin_lines s.spawns s.shifts) (end_lines s.backs s.reports) (all_function_lines functions m)
     (all_heap_lines 0 places) start t u v w x empty one two three four last in
-    parts ∙ ap (λ (z : Stats). told m places z functions) same ∙ ap (λ (fs : List Begun). told m places k.stats fs) listed
+    parts ∙ ap (λ (z : Stats). told m places z rounds functions) same ∙ ap (λ (n : ℕ). told m places k.stats n functions) round
+    ∙ ap (λ (fs : List Begun). told m places k.stats k.pace.rounds fs) listed

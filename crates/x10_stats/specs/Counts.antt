@@ -10,23 +10,31 @@ use Rattle.x10_world.specs.StandsForWorld.{WorldState, StandsForWorld, MakesEven
 use Rattle.x10_world.specs.declared.done.Done.{Done}
 use Rattle.x10_world.specs.declared.rounds.Unfinished.{Unfinished}
 use Rattle.x10_world.specs.declared.rounds.Unfinished.TheVariants as halt
+use Rattle.x10_stats.specs.Paces.{pace_at_first, paced}
 use Rattle.x10_stats.specs.Stats.{at_first, counted}
 use Rattle.x10_stats.specs.Tallies.{TallyState, ready, sight_of, tallied, tally_at_first}
+use Rattle.x10_stats.specs.declared.pace.Pace.{Pace}
 use Rattle.x10_stats.specs.declared.stats.Stats.{Stats}
 
--- what is counted of the events of a run, and of its activities
+-- what is counted of the events of a run, of its rounds, and of its activities
 pub record CountsState : Type 0 where
   pub stats : Stats
+  pub pace : Pace
   pub tally : TallyState
 
 -- before the first event
 abbrev pub counts_at_first : Certified → WorldState → CountsState
-counts_at_first c x = record { stats = at_first x; tally = tally_at_first c x }
+counts_at_first c x = record {
+  stats = at_first x;
+  pace = pace_at_first;
+  tally = tally_at_first c x;
+}
 
 -- with what an event did more, from the world before it to the one after it
 abbrev pub counted_with : CountsState → WorldState → Event → Done → WorldState → CountsState
 counted_with s x event did y = record {
   stats = counted s.stats y did;
+  pace = paced s.pace (sight_of x event).place event;
   tally = tallied s.tally x event did y;
 }
 

@@ -1,5 +1,6 @@
 pub mod Stats
 pub mod Tallies
+pub mod Paces
 pub mod Counts
 pub mod Lines
 pub mod Laws

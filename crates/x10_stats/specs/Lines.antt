@@ -12,11 +12,12 @@ use Rattle.x10_stats.specs.declared.tally.Begun.{Begun}
 abbrev pub line : List ℕ → ℕ → List ℕ
 line name n = name ++ (decimal n ++ 10 ∷ [])
 
-abbrev pub event_lines : Stats → List ℕ
-event_lines s = line (codes "steps:                    ") s.steps
+abbrev pub event_lines : Stats → (rounds : ℕ) → List ℕ
+event_lines s rounds = line (codes "steps:                    ") s.steps
     ++ (line (codes "idle events:              ") s.idle
     ++ (line (codes "deliveries:               ") s.deliveries
-    ++ line (codes "most stays at one time:   ") s.stays))
+    ++ (line (codes "rounds:                   ") rounds
+    ++ line (codes "most stays at one time:   ") s.stays)))
 
 -- frames that begin something where they go
 abbrev pub begin_lines : (spawns shifts : Volume) → List ℕ
@@ -91,7 +92,7 @@ all_function_lines functions c = function_lines functions c.bounds (length c.pro
 
 -- the lines that tell what was in a run of a module, which left the places so
 abbrev pub stats_lines : Certified → CountsState → List PlaceState → List ℕ
-stats_lines c s places = event_lines s.stats
+stats_lines c s places = event_lines s.stats s.pace.rounds
     ++ (begin_lines s.stats.spawns s.stats.shifts
     ++ (end_lines s.stats.backs s.stats.reports
     ++ (all_function_lines s.tally.functions c ++ all_heap_lines 0 places)))

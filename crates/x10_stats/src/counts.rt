@@ -2,21 +2,25 @@
 ghost use Rattle.std.specs.Prelude.{◌≡◌, IfOk, OnErr, OnOk};
 ghost use Rattle.x10_model.specs.declared.event.Event.{Event};
 ghost use Rattle.x10_stats.specs.Counts.{counts_at_first};
+ghost use Rattle.x10_stats.specs.Paces.{paced};
 ghost use Rattle.x10_stats.specs.Stats.{counted};
 ghost use Rattle.x10_stats.specs.Tallies.{noted, ready};
 
+use crate::pace::Pace;
 use crate::sight::Sight;
 use crate::stats::Stats;
 use crate::tally::Tally;
 use std::alloc::{AllocError, Global};
 use std::marker::Model;
+use x10_model::Event;
 use x10_verify::Verified;
 use x10_world::{Done, World};
 
-/// What is counted of a run so far: its events, and its activities by the functions with which they began.
+/// What is counted of a run so far: its events, its rounds, and its activities by the functions with which they began.
 #[derive(Drop)]
 pub struct Counts {
     stats: Stats,
+    pace: Pace,
     tally: Tally,
 }
 
@@ -25,7 +29,7 @@ impl Model for Counts {
 
     ghost Value = { CountsState };
 
-    ghost view = { λ a. record { stats = a.stats; tally = a.tally } };
+    ghost view = { λ a. record { stats = a.stats; pace = a.pace; tally = a.tally } };
 }
 
 impl Counts {
@@ -35,6 +39,7 @@ impl Counts {
     {
         Ok(Counts {
             stats: Stats::new(world),
+            pace: Pace::new(),
             tally: Tally::new(alloc, verified, world)?,
         })
     }
@@ -44,6 +49,14 @@ impl Counts {
         ensures { result.now ≡ self.now.stats }
     {
         &self.stats
+    }
+
+    /// How many rounds there were. An event begins one where it doesn't come behind the event before it in the order of rounds:
+    /// places rise, and at a place frames are taken in before keys rise.
+    pub fn rounds(&self) -> u64
+        ensures { result ≡ self.now.pace.rounds }
+    {
+        self.pace.rounds
     }
 
     /// Its activities.
@@ -63,13 +76,15 @@ impl Counts {
     }
 
     /// With what an event did, from what was seen before it, in the world right after it.
-    pub(crate) fn note(&mut self, sight: &Sight, world: &World, done: &Done)
+    pub(crate) fn note(&mut self, event: Event, sight: &Sight, world: &World, done: &Done)
         ensures { self.new ≡ record {
           stats = counted self.old.stats world.now done.now;
+          pace = paced self.old.pace sight.now.place event;
           tally = noted self.old.tally sight.now world.now done.now;
         } }
     {
         self.stats = self.stats.with(world, done);
+        self.pace = self.pace.with(sight.place, event);
         self.tally.note(sight, world, done);
     }
 }

@@ -5,6 +5,7 @@ mod activity;
 mod counts;
 pub mod laws;
 mod lines;
+mod pace;
 mod run;
 mod sight;
 mod stats;

@@ -25,7 +25,7 @@ pub fn stats_text(
 {
     let mut text = String::new(alloc);
     let stats = counts.stats();
-    push_events(&mut text, stats)?;
+    push_events(&mut text, stats, counts.rounds())?;
     push_begins(&mut text, stats.spawns, stats.shifts)?;
     push_ends(&mut text, stats.backs, stats.reports)?;
     push_functions(&mut text, verified, counts.tally().functions())?;
@@ -33,13 +33,15 @@ pub fn stats_text(
     Ok(text)
 }
 
-/// How many events there were of each sort, and stays at one time.
-fn push_events(text: &mut String, stats: &Stats) -> Result<(), AllocError>
-    ensures { OnOk result (string_bytes text.new ≡ string_bytes text.old ++ event_lines stats.now) }
+/// How many events there were of each sort, and rounds, and stays at one time.
+fn push_events(text: &mut String, stats: &Stats, rounds: u64) -> Result<(), AllocError>
+    ensures { OnOk result (string_bytes text.new
+        ≡ string_bytes text.old ++ event_lines stats.now rounds) }
 {
     push_line(text, "steps:                    ", stats.steps)?;
     push_line(text, "idle events:              ", stats.idle)?;
     push_line(text, "deliveries:               ", stats.deliveries)?;
+    push_line(text, "rounds:                   ", rounds)?;
     push_line(text, "most stays at one time:   ", stats.stays)
 }
 

@@ -69,6 +69,6 @@ fn count_event(world: &mut World, event: Event, counts: &mut Counts) -> Result<(
     let sight = look(world, event);
     counts.prepare(&sight)?;
     let done = world.event(event)?;
-    counts.note(&sight, world, &done);
+    counts.note(event, &sight, world, &done);
     Ok(())
 }

@@ -1,6 +1,7 @@
-use Rattle.std.proofs.Common.{◌≡◌, ◌+◌, ◌-◌, set, arith, length-set, rules, refl}
+use Rattle.std.proofs.Common.{◌≡◌, ◌+◌, ◌-◌, [], ◌∷◌, ◌++◌, decimal, drop, set, arith, length-set, length-append, rules, refl, sym, ◌∙◌, append_assoc}
 use Rattle.std.proofs.lemmas.Fmt.{length-decimal-le}
 use Rattle.std.proofs.lemmas.List.{set_comm, drop-set}
+use Rattle.x10_cli.proofs.LineParts.{drop_behind}
 use Rattle.x10_cli.proofs.numbered.put_front.Goals as goal
 
 pub write_digits-requires : goal.write_digits-requires
@@ -21,3 +22,11 @@ returns-clause-front c =
       f,
     )
     refl
+
+pub returns-clause-kept : goal.returns-clause-kept
+returns-clause-kept c =
+    let w = c.write_digits in
+    let front = decimal c.args.place ++ 58 ∷ 32 ∷ [] in
+    let long = length-append (decimal c.args.place) (58 ∷ 32 ∷ []) in
+    drop_behind w.new.buf front (drop c.args.end c.args.line.now) w.result c.args.end (let start = w.ensures.start in omega (arith, long, start))
+    (returns-clause-front c ∙ sym (append_assoc (decimal c.args.place) (58 ∷ 32 ∷ []) (drop c.args.end c.args.line.now)))

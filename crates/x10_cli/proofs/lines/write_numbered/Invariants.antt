@@ -1,0 +1,10 @@
+use Rattle.std.proofs.Common.{◌≡◌, map, take, false}
+use Rattle.std.specs.Io.KnownBytes.{Appends}
+use Rattle.x10_place.specs.StandsFor.{line_as}
+use Rattle.x10_cli.specs.Lines.{place_lines}
+use Rattle.x10_cli.proofs.lines.write_numbered.Given as goal
+
+abbrev pub invariant-loop-line : goal.invariant-loop-line
+invariant-loop-line g l = (l.numbered ≡ l.place)
+    × Appends (g.O.Write.contents l.initial.out) (g.O.Write.contents l.out)
+    (place_lines false l.place (map line_as (take l.line-index l.lines)))
