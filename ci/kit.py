@@ -70,6 +70,8 @@ HOLES = ["--allow-holes"]
 RESERVED = re.compile(r"^\./(proofs/\S+)/Proof\.antt: error\[reserved-name\]", re.M)
 # an error in a proof, behind its file and where it is there
 ERROR = ": error: "
+# what `rt ci` says of a crate that it has proved or that an earlier run has, whose library then stands: its name
+PROVED = re.compile(r"^rt: (\S+) (?:proved$|is kept: )", re.M)
 # the name of a goal that isn't proved, in such a line or in such an error; what it is called begins so where it is a clause of an
 # `ensures`
 NAME, ENSURED = re.compile(r"\(`([^`\s]+)`\)|: error: `([^`\s]+)`: "), "returns-clause-"
