@@ -2,6 +2,6 @@ pub mod FramesCounted
 pub mod EventsCounted
 pub mod HeapLines
 pub mod FrameTypes
-pub mod FourLines
+pub mod SeveralLines
 pub mod WholeText
 pub mod MostSteps

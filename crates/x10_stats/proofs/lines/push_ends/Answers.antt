@@ -1,7 +1,7 @@
 use Rattle.std.specs.Prelude.{codes}
 use Rattle.std.specs.String.{string_bytes}
 use Rattle.x10_stats.specs.Lines.{line}
-use Rattle.x10_stats.proofs.FourLines.{four_lines}
+use Rattle.x10_stats.proofs.SeveralLines.{four_lines}
 use Rattle.x10_stats.proofs.lines.push_ends.Goals as goal
 
 pub returns : goal.returns
