@@ -4,6 +4,7 @@
 ; 0: 7
 ; status 2: limit
 ; > --limit permits 2 events, and after that the root finish was open. Main takes 3 steps at most; the steps of all other activities count too, and deliveries and idle events.
+; > Idle events: 0 of 2.
 ; > Who lives then:
 ; >   main at place 0: function 0, instruction 2 (RET)
 ; > Activities that can move: 1 of 1.
@@ -11,6 +12,7 @@
 ; S 0 0 0 0 INTK
 ; status 2: limit
 ; > --limit permits 1 event, and after that the root finish was open. Main takes 3 steps at most; the steps of all other activities count too, and deliveries and idle events.
+; > Idle events: 0 of 1.
 ; > Who lives then:
 ; >   main at place 0: function 0, instruction 1 (PRINT)
 ; > Activities that can move: 1 of 1.

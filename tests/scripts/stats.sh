@@ -141,7 +141,7 @@ def differs(path, words):
     return ""
 
 status = 0
-for folder in ("activities", "atomic", "objects", "places", "travels"):
+for folder in ("activities", "atomic", "objects", "places", "stats", "travels"):
     # but those whose pieces tests/run writes out
     for path in sorted(it for it in (tests / folder).glob("*.asm") if "{{" not in it.read_text(encoding="utf-8")):
         for words in SCHEDULES:

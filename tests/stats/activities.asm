@@ -7,6 +7,7 @@
 ; > steps:                    39
 ; > idle events:              4
 ; > deliveries:               6
+; > rounds:                   19
 ; > most stays at one time:   5
 ; > Spawn frames:             1
 ; > Spawn bytes:              37
@@ -34,6 +35,7 @@
 ; > steps:                    19
 ; > idle events:              3
 ; > deliveries:               3
+; > rounds:                   8
 ; > most stays at one time:   5
 ; > Spawn frames:             1
 ; > Spawn bytes:              37

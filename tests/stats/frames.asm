@@ -7,6 +7,7 @@
 ; > steps:                    9
 ; > idle events:              1
 ; > deliveries:               5
+; > rounds:                   7
 ; > most stays at one time:   2
 ; > Spawn frames:             1
 ; > Spawn bytes:              28
@@ -34,6 +35,7 @@
 ; > steps:                    4
 ; > idle events:              0
 ; > deliveries:               2
+; > rounds:                   4
 ; > most stays at one time:   2
 ; > Spawn frames:             1
 ; > Spawn bytes:              28
@@ -59,12 +61,14 @@
 ; $ x10p run frames.x10 --stats --limit 1 --explain
 ; status 2: limit
 ; > --limit permits 1 event, and after that the root finish was open. Main takes 8 steps at most; the steps of all other activities count too, and deliveries and idle events.
+; > Idle events: 0 of 1.
 ; > Who lives then:
 ; >   main at place 0: function 2, instruction 1 (PLACEK)
 ; > Activities that can move: 1 of 1.
 ; > steps:                    1
 ; > idle events:              0
 ; > deliveries:               0
+; > rounds:                   1
 ; > most stays at one time:   1
 ; > Spawn frames:             0
 ; > Spawn bytes:              0

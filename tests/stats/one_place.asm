@@ -5,6 +5,7 @@
 ; > steps:                    9
 ; > idle events:              1
 ; > deliveries:               0
+; > rounds:                   9
 ; > most stays at one time:   2
 ; > Spawn frames:             0
 ; > Spawn bytes:              0
@@ -27,6 +28,7 @@
 ; > steps:                    5
 ; > idle events:              0
 ; > deliveries:               0
+; > rounds:                   5
 ; > most stays at one time:   1
 ; > Spawn frames:             0
 ; > Spawn bytes:              0
@@ -49,6 +51,7 @@
 ; > steps:                    9
 ; > idle events:              0
 ; > deliveries:               0
+; > rounds:                   8
 ; > most stays at one time:   2
 ; > Spawn frames:             0
 ; > Spawn bytes:              0
