@@ -84,7 +84,7 @@ front_alone {place} {line} {start} {end} h =
     let rest = length-drop start line in
     let behind = length-drop end line in
     let size : end - start ≡ length front =
-        (let before = h.before in let within = h.within in omega (arith, long, all, parts, rest, behind, before, within)) in
+    (let before = h.before in let within = h.within in omega (arith, long, all, parts, rest, behind, before, within)) in
     ap (λ n. take n (drop start line)) size ∙ ap (take (length front)) whole ∙ take-append_seam front (drop end line)
 
 -- a line with a text, written in three parts

@@ -64,8 +64,7 @@ fn push_idle(
 ) -> Result<(), AllocError> {
     let mut counts = Counts::new(alloc, verified, world)?;
     let limit = task.limit;
-    let Err(Unfinished::Limit) =
-        count_run(alloc, world, schedule_of(task), limit, &mut counts)
+    let Err(Unfinished::Limit) = count_run(alloc, world, schedule_of(task), limit, &mut counts)
     else {
         return Err(AllocError);
     };

@@ -87,6 +87,7 @@ fn put_front(place: usize, line: &mut [u8; MOST], end: usize) -> usize
 }
 
 /// Puts a number before the last byte, and answers where it begins.
+#[inline(always)]
 fn put_signed(number: i64, line: &mut [u8; MOST]) -> usize
     ensures room { 22 ≤ result }
     ensures within { result ≤ 42 }

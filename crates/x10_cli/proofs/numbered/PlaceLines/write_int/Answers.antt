@@ -22,12 +22,17 @@ is_put g c =
     let back = to_z-of_z c.ranges.number in
     let digits : drop s.result s.new.line ≡ signed_decimal c.args.number ++ 10 ∷ [] = rw (s.ensures.digits, back) (ap (λ bs. signed_decimal c.args.number ++ bs) old.last) in
     elim c.if-end-self.branch [
-      | then-end-self w ↦ subst (IsPut g c) (sym w.self-inside-is)
-          (new_front s.new.line w.put_front-self-inside.new.line w.put_front-self-inside.ensures.before s.ensures.room s.ensures.within w.put_front-self-inside.ensures.front
-          w.put_front-self-inside.ensures.kept (s.ensures.kept ∙ old.last), w.put_front-self-inside.ensures.kept ∙ digits, refl)
-      | else-end-self w ↦ subst (IsPut g c) (sym w.self-inside-is)
-          (same_front old (subst (λ n. take n s.new.line ≡ take n c.self.inside.line) w.if-end-self.false s.ensures.before) s.ensures.kept,
-          subst (λ n. drop n s.new.line ≡ signed_decimal c.args.number ++ 10 ∷ []) w.if-end-self.false digits, refl)
+      | then-end-self w ↦ subst (IsPut g c) (sym w.self-inside-is) (
+        new_front s.new.line w.put_front-self-inside.new.line w.put_front-self-inside.ensures.before s.ensures.room s.ensures.within w.put_front-self-inside.ensures.front
+            w.put_front-self-inside.ensures.kept (s.ensures.kept ∙ old.last),
+        w.put_front-self-inside.ensures.kept ∙ digits,
+        refl,
+      )
+      | else-end-self w ↦ subst (IsPut g c) (sym w.self-inside-is) (
+        same_front old (subst (λ n. take n s.new.line ≡ take n c.self.inside.line) w.if-end-self.false s.ensures.before) s.ensures.kept,
+        subst (λ n. drop n s.new.line ≡ signed_decimal c.args.number ++ 10 ∷ []) w.if-end-self.false digits,
+        refl,
+      )
     ]
 
 pub invariant_of-self : goal.invariant_of-self
