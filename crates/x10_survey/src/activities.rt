@@ -2,7 +2,7 @@
 use crate::finishes::push_finish;
 use std::alloc::{AllocError, Global};
 use std::fmt::Write;
-use x10_code::{Op, name};
+use x10_code::name;
 use x10_model::Finish;
 use x10_place::{Place, Stay};
 use x10_verify::Verified;
@@ -75,7 +75,7 @@ fn push_activity(
     push_name(text, verified, id, key, stay)?;
     let op_name = name(op);
     write!(text, ": function {function}, instruction {pc} ({op_name})")?;
-    push_state(text, world, id, place, key, stay, op)?;
+    push_state(text, world, id, place, key, stay)?;
     text.push_str("\n")
 }
 
@@ -105,7 +105,6 @@ fn push_state(
     place: &Place,
     key: usize,
     stay: &Stay,
-    op: Op,
 ) -> Result<(), AllocError> {
     if stay.is_away() {
         return text.push_str(", away until a result comes back");
@@ -113,8 +112,9 @@ fn push_state(
     if !place.is_idle(key) {
         return Ok(());
     }
-    if op == Op::Atomb {
-        return text.push_str(", kept out by an atomic region");
+    let is_kept_out = place.inside().is_some_and(|other| other != key);
+    if is_kept_out {
+        text.push_str(", kept out by an atomic region")?;
     }
     let Some(number) = stay.finishes().last() else {
         return Ok(());
@@ -123,7 +123,8 @@ fn push_state(
         home: id,
         number: *number,
     };
-    text.push_str(", waits for ")?;
+    let how = if is_kept_out { ", in " } else { ", waits for " };
+    text.push_str(how)?;
     push_finish(text, world, finish)
 }
 
