@@ -4,6 +4,10 @@
 ; 0: 3
 ; status 2: stop: Limit 7
 ; > There may be 1048576 objects in one frame at most, and the next event would make one more.
+; > Idle events: 0 of 3147783.
+; > Who lives then:
+; >   main at place 0: function 1, instruction 12 (AT)
+; > Activities that can move: 1 of 1.
 places 2
 class opt:0
 int 3

@@ -1,7 +1,7 @@
 //! What is said about a fault besides its line, for people.
 
 use crate::explain_frame::of_frame;
-use crate::explain_limit::{of_events, of_turns};
+use crate::explain_limit::{counted_word, of_events, of_turns, with_end};
 use crate::explain_log::{log_of, of_log, of_open_log, of_other_image, of_turn};
 use crate::fault::Fault;
 use std::alloc::{AllocError, Global};
@@ -17,6 +17,24 @@ use x10_verify::{VerifyCause, VerifyFault};
 /// Sentences on a fault of a task over the bytes of its file, a line each; none where there is nothing to add. Where they were
 /// assembled from a text, its lines are named. The log is an audit's, else empty.
 pub(crate) fn explanation(
+    alloc: Global,
+    task: &Task,
+    bytes: &[u8],
+    source: Option<&str>,
+    log: &[u8],
+    fault: Fault,
+) -> Result<String, AllocError> {
+    let text = of_fault(alloc, task, bytes, source, log, fault)?;
+    match fault {
+        Fault::StopMemory | Fault::StopLimit(_) | Fault::Limit => {
+            with_end(alloc, text, task, bytes, source, fault)
+        }
+        _ => Ok(text),
+    }
+}
+
+/// The sentences on a fault itself.
+fn of_fault(
     alloc: Global,
     task: &Task,
     bytes: &[u8],
@@ -119,8 +137,9 @@ fn of_memory(alloc: Global, task: &Task, bytes: &[u8]) -> Result<String, AllocEr
     let finish = u64::from(places)
         .saturating_mul(u64::from(places))
         .saturating_mul(12);
+    let word = counted_word(u64::from(places), "place", "places");
     format!(in alloc;
-        "The system gave no memory for what the next event makes. What a place makes it keeps; an open finish takes {finish} bytes here, at {places} places.\n"
+        "The system gave no memory for what the next event makes. What a place makes it keeps; an open finish takes {finish} bytes here, at {places} {word}.\n"
     )
 }
 

@@ -1,79 +1,136 @@
-//! What is said where a run meets its limit: how much it permits, and of events who lives then.
+//! What is said where a run ends early: at its limit, or where the machine stops. Who lives then, and how many events were idle.
 
 use crate::commands::{opened, verified_in};
+use crate::fault::Fault;
 use crate::schedule::schedule_of;
 use std::alloc::{AllocError, Global};
 use std::fmt::Write;
 use x10_bounds::bounds;
+use x10_explain::Source;
 use x10_image::ImageView;
 use x10_schedule::run_by;
 use x10_stats::{Counts, count_run};
 use x10_survey::survey;
 use x10_task::Task;
 use x10_verify::Verified;
-use x10_world::{Unfinished, World};
+use x10_world::World;
 
 /// The most events of a run that is made once more event by event, so that its idle ones are counted.
 const MOST_COUNTED: u64 = 10_000_000;
 
-/// How many events the limit permits, and who lives after them.
-pub(crate) fn of_events(alloc: Global, task: &Task, bytes: &[u8]) -> Result<String, AllocError> {
-    let mut text = told_events(alloc, task, bytes)?;
-    push_living(alloc, &mut text, task, bytes)?;
+/// How many events a run had, and how many of them were idle.
+#[derive(Clone, Copy)]
+struct Share {
+    idle: u64,
+    events: u64,
+}
+
+/// A text with what there is to say of the end of a run, which the fault tells: the share of idle events, and who lives then. The
+/// run is made once more for that, by the same schedule, so it goes the same way. Nothing comes behind the text where it
+/// doesn't end so again, as where memory was refused only once, or where there is no memory; nor of a run with threads, or one
+/// in a log.
+pub(crate) fn with_end(
+    alloc: Global,
+    text: String,
+    task: &Task,
+    bytes: &[u8],
+    source: Option<&str>,
+    fault: Fault,
+) -> Result<String, AllocError> {
+    let mut text = text;
+    if task.threads || task.log.is_some() {
+        return Ok(text);
+    }
+    if let Ok(end) = end_of(alloc, task, bytes, source, fault) {
+        // where it is refused memory, the text is as it was
+        _ = text.push_str(end.as_str());
+    }
     Ok(text)
 }
 
-/// Pushes who lives in the world at the limit. The run is made once more for it, by the same schedule: so it goes the same way.
-fn push_living(
+/// The lines on the end of a run.
+fn end_of(
     alloc: Global,
-    text: &mut String,
     task: &Task,
     bytes: &[u8],
-) -> Result<(), AllocError> {
+    source: Option<&str>,
+    fault: Fault,
+) -> Result<String, AllocError> {
     let Ok(verified) = verified_in(alloc, bytes) else {
         return Err(AllocError);
     };
+    let mut text = String::new(alloc);
     let Ok(mut world) = opened(alloc, task.places, &verified) else {
         return Err(AllocError);
     };
-    if task.limit <= MOST_COUNTED {
-        push_idle(alloc, text, task, &verified, &mut world)?;
+    if let Some(share) = share_of(alloc, task, &verified, &mut world, fault)? {
+        let Share { idle, events } = share;
+        writeln!(text, "Idle events: {idle} of {events}.")?;
     } else {
-        remake(alloc, task, &mut world)?;
+        let Ok(anew) = opened(alloc, task.places, &verified) else {
+            return Err(AllocError);
+        };
+        world = anew;
+        remake(alloc, task, &mut world, fault)?;
     }
-    let living = survey(alloc, &verified, &world)?;
-    text.push_str("Who lives then:\n")?;
-    text.push_str(living.as_str())
+    push_living(alloc, &mut text, &verified, &world, source)?;
+    Ok(text)
 }
 
-/// Makes the run, and doesn't count.
-fn remake(alloc: Global, task: &Task, world: &mut World) -> Result<(), AllocError> {
+/// Makes a run event by event, and answers the share of its idle events; none where it is too long for that.
+fn share_of(
+    alloc: Global,
+    task: &Task,
+    verified: &Verified,
+    world: &mut World,
+    fault: Fault,
+) -> Result<Option<Share>, AllocError> {
+    let most = task.limit.min(MOST_COUNTED);
+    if fault == Fault::Limit && most < task.limit {
+        return Ok(None);
+    }
+    let mut counts = Counts::new(alloc, verified, world)?;
+    match count_run(alloc, world, schedule_of(task), most, &mut counts) {
+        Err(halt) if Fault::from(halt) == fault => {}
+        _ => return Ok(None),
+    }
+    let stats = counts.stats();
+    let moved = stats.steps.saturating_add(stats.deliveries);
+    Ok(Some(Share {
+        idle: stats.idle,
+        events: moved.saturating_add(stats.idle),
+    }))
+}
+
+/// Makes a run, which has to end as the fault says.
+fn remake(alloc: Global, task: &Task, world: &mut World, fault: Fault) -> Result<(), AllocError> {
     match run_by(alloc, world, schedule_of(task), task.limit) {
-        Err(Unfinished::Limit) => Ok(()),
+        Err(halt) if Fault::from(halt) == fault => Ok(()),
         _ => Err(AllocError),
     }
 }
 
-/// Makes the run, and pushes how many of its events were idle.
-fn push_idle(
+/// Pushes who lives in a world. Where there is a text, its lines are named.
+fn push_living(
     alloc: Global,
     text: &mut String,
-    task: &Task,
     verified: &Verified,
-    world: &mut World,
+    world: &World,
+    source: Option<&str>,
 ) -> Result<(), AllocError> {
-    let mut counts = Counts::new(alloc, verified, world)?;
-    let limit = task.limit;
-    let Err(Unfinished::Limit) = count_run(alloc, world, schedule_of(task), limit, &mut counts)
-    else {
-        return Err(AllocError);
+    text.push_str("Who lives then:\n")?;
+    let living = match source {
+        Some(source) => {
+            let source = Source::read(alloc, source)?;
+            survey(alloc, verified, world, Some(&source))?
+        }
+        None => survey(alloc, verified, world, None)?,
     };
-    let idle = counts.stats().idle;
-    writeln!(text, "Idle events: {idle} of {limit}.")
+    text.push_str(living.as_str())
 }
 
 /// How many events the limit permits, and main has steps.
-fn told_events(alloc: Global, task: &Task, bytes: &[u8]) -> Result<String, AllocError> {
+pub(crate) fn of_events(alloc: Global, task: &Task, bytes: &[u8]) -> Result<String, AllocError> {
     let limit = task.limit;
     let events = counted_word(limit, "event", "events");
     match bound_of_main(alloc, bytes) {
@@ -90,7 +147,7 @@ fn told_events(alloc: Global, task: &Task, bytes: &[u8]) -> Result<String, Alloc
 }
 
 /// The word for one, or the one for several.
-fn counted_word<'a>(count: u64, one: &'a str, many: &'a str) -> &'a str {
+pub(crate) fn counted_word<'a>(count: u64, one: &'a str, many: &'a str) -> &'a str {
     if count == 1 { one } else { many }
 }
 

@@ -52,5 +52,6 @@ pub use check::{CheckFault, Checked, Form, check_image, check_text};
 pub use image::explain_image;
 pub use json_module::list_json;
 pub use names::{asm_name, image_name, verify_name};
+pub use source::Source;
 pub use verbose::list_verbose;
 pub use verify::{explain_verify, explain_verify_in};

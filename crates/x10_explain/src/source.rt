@@ -17,14 +17,14 @@ struct Func {
 
 /// A text, and where its functions begin. It takes 16 bytes for each of them.
 #[derive(Drop)]
-pub(crate) struct Source<'a> {
+pub struct Source<'a> {
     text: &'a str,
     funcs: Vec<Func>,
 }
 
 impl<'a> Source<'a> {
     /// Finds the functions of a text. One pass over its lines.
-    pub(crate) fn read(alloc: Global, text: &'a str) -> Result<Source<'a>, AllocError> {
+    pub fn read(alloc: Global, text: &'a str) -> Result<Source<'a>, AllocError> {
         let mut funcs = Vec::new(alloc);
         let mut bytes: usize = 0;
         for (lines, line) in text.split('\n').enumerate() {
@@ -41,8 +41,9 @@ impl<'a> Source<'a> {
         self.text.get(self.funcs.get(f)?.bytes..)
     }
 
-    /// The line of an instruction, and its number. Linear in the lines of the instruction's function.
-    pub(crate) fn line_of(&self, f: usize, pc: usize) -> Option<(usize, &'a str)>
+    /// The line of an instruction, and its number from 1; none where the text has no such instruction. Linear in the lines of
+    /// the instruction's function.
+    pub fn line_of(&self, f: usize, pc: usize) -> Option<(usize, &'a str)>
         ensures { IfSome result (λ x. IsUtf8 x.1.now) }
     {
         let func = *self.funcs.get(f)?;

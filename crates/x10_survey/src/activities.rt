@@ -3,6 +3,7 @@ use crate::finishes::push_finish;
 use std::alloc::{AllocError, Global};
 use std::fmt::Write;
 use x10_code::name;
+use x10_explain::Source;
 use x10_model::Finish;
 use x10_place::{Place, Stay};
 use x10_verify::Verified;
@@ -18,14 +19,32 @@ struct Counts {
     able: usize,
 }
 
+/// What activities are told by, besides their world.
+#[derive(Clone, Copy)]
+struct Module<'a> {
+    /// The function that main begins with.
+    entry: u16,
+    source: Option<&'a Source<'a>>,
+}
+
 /// Who lives in a world: for each activity, at most 20 of them, where it stands and what it waits for; and whether any can move.
-/// Takes time quadratic in the places for each that waits at a finish, and linear in the keys that were ever in use.
-pub fn survey(alloc: Global, verified: &Verified, world: &World) -> Result<String, AllocError> {
+/// With the text that the module was assembled from it names the text's line too. Takes time quadratic in the places for each
+/// that waits at a finish, linear in the lines of its function, and linear in the keys that were ever in use.
+pub fn survey(
+    alloc: Global,
+    verified: &Verified,
+    world: &World,
+    source: Option<&Source>,
+) -> Result<String, AllocError> {
     let mut text = String::new(alloc);
+    let module = Module {
+        entry: verified.image().entry(),
+        source,
+    };
     let mut counts = Counts { alive: 0, able: 0 };
     for id in 0..world.count() {
         if let Some(place) = world.place(id) {
-            push_place(alloc, &mut text, verified, world, id, place, &mut counts)?;
+            push_place(alloc, &mut text, module, world, id, place, &mut counts)?;
         }
     }
     if counts.alive > MOST {
@@ -40,7 +59,7 @@ pub fn survey(alloc: Global, verified: &Verified, world: &World) -> Result<Strin
 fn push_place(
     alloc: Global,
     text: &mut String,
-    verified: &Verified,
+    module: Module,
     world: &World,
     id: u16,
     place: &Place,
@@ -49,7 +68,7 @@ fn push_place(
     let keys = place.keys(alloc)?;
     for key in &keys {
         if counts.alive < MOST {
-            push_activity(text, verified, world, id, place, *key)?;
+            push_activity(text, module, world, id, place, *key)?;
         }
         counts.alive = counts.alive.saturating_add(1);
         if !place.is_idle(*key) {
@@ -62,7 +81,7 @@ fn push_place(
 /// An activity: where it stands, and what it waits for.
 fn push_activity(
     text: &mut String,
-    verified: &Verified,
+    module: Module,
     world: &World,
     id: u16,
     place: &Place,
@@ -72,17 +91,34 @@ fn push_activity(
         return Ok(());
     };
     text.push_str("  ")?;
-    push_name(text, verified, id, key, stay)?;
+    push_name(text, module.entry, id, key, stay)?;
     let op_name = name(op);
     write!(text, ": function {function}, instruction {pc} ({op_name})")?;
+    push_line(text, module.source, function, pc)?;
     push_state(text, world, id, place, key, stay)?;
     text.push_str("\n")
+}
+
+/// The line of an instruction, where there is a text.
+fn push_line(
+    text: &mut String,
+    source: Option<&Source>,
+    function: u16,
+    pc: u16,
+) -> Result<(), AllocError> {
+    let Some(source) = source else {
+        return Ok(());
+    };
+    match source.line_of(usize::from(function), usize::from(pc)) {
+        Some((line, _)) => write!(text, ", line {line}"),
+        None => Ok(()),
+    }
 }
 
 /// The name of an activity: `main`, or the function that it began with.
 fn push_name(
     text: &mut String,
-    verified: &Verified,
+    entry: u16,
     id: u16,
     key: usize,
     stay: &Stay,
@@ -91,7 +127,7 @@ fn push_name(
         Some(frame) => frame.function(),
         None => stay.frame().function(),
     };
-    if id == 0 && key == 0 && first == verified.image().entry() {
+    if id == 0 && key == 0 && first == entry {
         return text.push_str("main at place 0");
     }
     write!(text, "f{first} at place {id}, key {key}")

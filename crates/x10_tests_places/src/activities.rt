@@ -1,9 +1,8 @@
 //! Many activities at one place under ten thousand random events, next to a plain count of what each of them does.
-use crate::places::{opened, program};
+use crate::places::at_place_of;
 use std::alloc::{AllocError, Global};
 use std::process::Abort;
 use std::test::*;
-use x10_asm::assemble;
 use x10_place::{Place, Stepped};
 use x10_samples::random;
 
@@ -254,8 +253,5 @@ fn goes(alloc: Global, rt: &impl Abort, place: &mut Place) -> Result<(), Fail> {
 
 #[test]
 fn ten_thousand_events(rt: HostRuntime) -> Result<(), Fail> {
-    let bytes = assemble(rt.alloc(), BRANCHES)?;
-    let verified = program(rt.alloc(), &bytes)?;
-    let mut place = opened(rt.alloc(), &verified, 0, 1)?;
-    goes(rt.alloc(), &rt, &mut place)
+    at_place_of(rt.alloc(), BRANCHES, 0, 1, |place| goes(rt.alloc(), &rt, place))
 }

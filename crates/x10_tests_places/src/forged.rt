@@ -1,9 +1,8 @@
 //! Frames that no place sends: which fault is reported for each, and that the place is as before.
-use crate::places::{opened, program, ran};
+use crate::places::{at_place_of, ran};
 use crate::receiving::{is_used, refused, spawn, takes};
 use std::process::Abort;
 use std::test::*;
-use x10_asm::assemble;
 use x10_copy::Refusal;
 use x10_frame::FrameFault;
 use x10_place::Place;
@@ -81,12 +80,11 @@ fn each_is_told(rt: &impl Abort, place: &mut Place) {
 
 #[test]
 fn one_fault_after_another(rt: HostRuntime) -> Result<(), Fail> {
-    let bytes = assemble(rt.alloc(), REFERENCES)?;
-    let verified = program(rt.alloc(), &bytes)?;
-    let mut place = opened(rt.alloc(), &verified, 0, 2)?;
-    assert!(rt; ran(&mut place, 0, 2) == Some(2));
-    each_is_told(&rt, &mut place);
-    Ok(())
+    at_place_of(rt.alloc(), REFERENCES, 0, 2, |place| {
+        assert!(rt; ran(place, 0, 2) == Some(2));
+        each_is_told(&rt, place);
+        Ok(())
+    })
 }
 
 /// Frames that are refused where main is away at place 1, in a finish.
@@ -114,15 +112,14 @@ fn are_refused(rt: &impl Abort, place: &mut Place) {
 
 #[test]
 fn at_home(rt: HostRuntime) -> Result<(), Fail> {
-    let bytes = assemble(rt.alloc(), AWAY)?;
-    let verified = program(rt.alloc(), &bytes)?;
-    let mut place = opened(rt.alloc(), &verified, 0, 3)?;
-    assert!(rt; ran(&mut place, 0, 100) == Some(3));
-    are_refused(&rt, &mut place);
-    assert!(rt; !is_used(&place, 1));
-    let mut elsewhere = spawn(99, 0);
-    elsewhere[7] = 2;
-    assert!(rt; takes(&mut place, &elsewhere) && is_used(&place, 1));
-    assert!(rt; takes(&mut place, &BACK));
-    Ok(())
+    at_place_of(rt.alloc(), AWAY, 0, 3, |place| {
+        assert!(rt; ran(place, 0, 100) == Some(3));
+        are_refused(&rt, place);
+        assert!(rt; !is_used(place, 1));
+        let mut elsewhere = spawn(99, 0);
+        elsewhere[7] = 2;
+        assert!(rt; takes(place, &elsewhere) && is_used(place, 1));
+        assert!(rt; takes(place, &BACK));
+        Ok(())
+    })
 }

@@ -1,6 +1,6 @@
 //! What goes from one place to another, where memory is refused on the way. These tests meet that only where the runner
 //! refuses an allocation; one that is refused before the places are there is left to the tests of other crates.
-use crate::places::{opened, place_of, program, program_of};
+use crate::places::{place_of, program, program_of};
 use crate::receiving::refused;
 use std::alloc::Global;
 use std::process::Abort;
@@ -12,6 +12,7 @@ use x10_kinds::Stop;
 use x10_model::Event;
 use x10_place::{Line, Outgoing, Place, Sent, Stepped};
 use x10_samples::CYCLE;
+use x10_verify::Verified;
 use x10_world::World;
 
 /// An object with a rail, a text and a reference goes to place 1, where the text is printed, and comes back. Main prints
@@ -207,26 +208,34 @@ fn between_places(alloc: Global, rt: &impl Abort, by_steps: bool) -> Result<(), 
     let Ok(bytes) = assemble(alloc, THERE_AND_BACK) else {
         return Ok(());
     };
-    let Some(verified) = program_of(alloc, &bytes) else {
-        return Ok(());
-    };
-    let Some(mut one) = place_of(alloc, &verified, 0, 2) else {
-        return Ok(());
-    };
-    let Some(mut other) = place_of(alloc, &verified, 1, 2) else {
-        return Ok(());
-    };
-    ends_or_stops(rt, &mut one, &mut other, by_steps);
+    if let Some(verified) = program_of(alloc, &bytes) {
+        at_places(alloc, &verified, |one, other| {
+            ends_or_stops(rt, one, other, by_steps);
+        });
+    }
     Ok(())
+}
+
+/// What a test does at two places of a program; nothing where memory for them is refused.
+fn at_places<F: FnOnce(&mut Place, &mut Place)>(
+    alloc: Global,
+    verified: &Verified,
+    test: F,
+) -> Option<()>
+    requires { F.IsAlwaysCallable test }
+{
+    let mut one = place_of(alloc, verified, 0, 2)?;
+    let mut other = place_of(alloc, verified, 1, 2)?;
+    test(&mut one, &mut other);
+    Some(())
 }
 
 #[test]
 fn there_and_back(rt: HostRuntime) -> Result<(), Fail> {
     let bytes = assemble(rt.alloc(), THERE_AND_BACK)?;
     let verified = program(rt.alloc(), &bytes)?;
-    let mut one = opened(rt.alloc(), &verified, 0, 2)?;
-    let mut other = opened(rt.alloc(), &verified, 1, 2)?;
-    ends(&rt, &mut one, &mut other);
+    let came = at_places(rt.alloc(), &verified, |one, other| ends(&rt, one, other));
+    assert!(rt; came.is_some());
     Ok(())
 }
 

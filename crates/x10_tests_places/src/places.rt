@@ -64,12 +64,7 @@ pub(crate) fn program_of(alloc: Global, bytes: &[u8]) -> Option<Verified<'_>> {
     verify(alloc, ImageView::read(alloc, bytes).ok()?).ok()
 }
 
-/// The image of a program that is given as text.
-pub(crate) fn assembled(alloc: Global, text: &str) -> Result<Vec<u8>, Fail> {
-    Ok(assemble(alloc, text)?)
-}
-
-/// The same, if memory is there.
+/// The image of a program that is given as text, if memory is there.
 pub(crate) fn assembled_if(alloc: Global, text: &str) -> Option<Vec<u8>> {
     assemble(alloc, text).ok()
 }
@@ -87,6 +82,36 @@ pub(crate) fn opened<'a>(
     places: u16,
 ) -> Result<Place<'a>, Fail> {
     Ok(place_of(alloc, verified, id, places).ok_or("the place is there")?)
+}
+
+/// What a test does at a place of the run of an image. (A check grows with the values that are dropped times the ways to return:
+/// so a program and its place are held here, and a test has neither.)
+pub(crate) fn at_place<F: FnOnce(&mut Place) -> Result<(), Fail>>(
+    alloc: Global,
+    image: &[u8],
+    id: u16,
+    places: u16,
+    test: F,
+) -> Result<(), Fail>
+    requires { F.IsAlwaysCallable test }
+{
+    let verified = program(alloc, image)?;
+    let mut place = opened(alloc, &verified, id, places)?;
+    test(&mut place)
+}
+
+/// The same with a program as text.
+pub(crate) fn at_place_of<F: FnOnce(&mut Place) -> Result<(), Fail>>(
+    alloc: Global,
+    text: &str,
+    id: u16,
+    places: u16,
+    test: F,
+) -> Result<(), Fail>
+    requires { F.IsAlwaysCallable test }
+{
+    let image = assemble(alloc, text)?;
+    at_place(alloc, &image, id, places, test)
 }
 
 /// Whether the activity with a key moves.
@@ -144,39 +169,39 @@ fn first_key(place: &Place) -> Option<usize> {
 
 #[test]
 fn step_by_step(rt: HostRuntime) -> Result<(), Fail> {
-    let verified = program(rt.alloc(), &SEVEN)?;
-    let mut place = opened(rt.alloc(), &verified, 0, 1)?;
-    let key = first_key(&place).ok_or("main is there")?;
-    for op in [Op::Intk, Op::Print, Op::Ret] {
-        assert!(rt; !is_closed(&place) && stands_at(&place, key, op));
-        assert!(rt; moves(&mut place, key));
-    }
-    assert!(rt; has_ended(&place) && idles(&mut place, key));
-    assert!(rt; at(&place, key).is_none() && first_key(&place).is_none());
-    Ok(())
+    at_place(rt.alloc(), &SEVEN, 0, 1, |place| {
+        let key = first_key(place).ok_or("main is there")?;
+        for op in [Op::Intk, Op::Print, Op::Ret] {
+            assert!(rt; !is_closed(place) && stands_at(place, key, op));
+            assert!(rt; moves(place, key));
+        }
+        assert!(rt; has_ended(place) && idles(place, key));
+        assert!(rt; at(place, key).is_none() && first_key(place).is_none());
+        Ok(())
+    })
 }
 
 #[test]
 fn at_a_stretch(rt: HostRuntime) -> Result<(), Fail> {
-    let verified = program(rt.alloc(), &SEVEN)?;
-    let mut place = opened(rt.alloc(), &verified, 0, 1)?;
-    let key = first_key(&place).ok_or("main is there")?;
-    for (key, steps, made) in [(99, 5, 0), (key, 2, 2)] {
-        assert!(rt; ran(&mut place, key, steps) == Some(made) && !is_closed(&place));
-    }
-    for made in [1, 0] {
-        assert!(rt; ran(&mut place, key, 5) == Some(made) && has_ended(&place));
-    }
-    Ok(())
+    at_place(rt.alloc(), &SEVEN, 0, 1, |place| {
+        let key = first_key(place).ok_or("main is there")?;
+        for (key, steps, made) in [(99, 5, 0), (key, 2, 2)] {
+            assert!(rt; ran(place, key, steps) == Some(made) && !is_closed(place));
+        }
+        for made in [1, 0] {
+            assert!(rt; ran(place, key, 5) == Some(made) && has_ended(place));
+        }
+        Ok(())
+    })
 }
 
 #[test]
 fn another_place(rt: HostRuntime) -> Result<(), Fail> {
-    let verified = program(rt.alloc(), &SEVEN)?;
-    let mut place = opened(rt.alloc(), &verified, 1, 2)?;
-    assert!(rt; first_key(&place).is_none() && idles(&mut place, 0));
-    assert!(rt; !is_closed(&place));
-    Ok(())
+    at_place(rt.alloc(), &SEVEN, 1, 2, |place| {
+        assert!(rt; first_key(place).is_none() && idles(place, 0));
+        assert!(rt; !is_closed(place));
+        Ok(())
+    })
 }
 
 /// Whether a place takes no step.

@@ -1,8 +1,7 @@
 //! What a place takes in and what it refuses, after which it goes on.
-use crate::places::{idles, opened, program, ran};
+use crate::places::{at_place_of, idles, ran};
 use std::process::Abort;
 use std::test::*;
-use x10_asm::assemble;
 use x10_copy::Refusal;
 use x10_frame::FrameFault;
 use x10_place::{Line, Place, Stepped};
@@ -118,11 +117,10 @@ fn waits_for_both(rt: &impl Abort, place: &mut Place) {
 
 #[test]
 fn reports_in_another_order(rt: HostRuntime) -> Result<(), Fail> {
-    let bytes = assemble(rt.alloc(), TWO)?;
-    let verified = program(rt.alloc(), &bytes)?;
-    let mut place = opened(rt.alloc(), &verified, 0, 3)?;
-    waits_for_both(&rt, &mut place);
-    Ok(())
+    at_place_of(rt.alloc(), TWO, 0, 3, |place| {
+        waits_for_both(&rt, place);
+        Ok(())
+    })
 }
 
 /// What place 1 refuses to take in, and why.
@@ -157,20 +155,18 @@ fn goes_on(rt: &impl Abort, place: &mut Place) {
 
 #[test]
 fn refused_and_then_taken(rt: HostRuntime) -> Result<(), Fail> {
-    let bytes = assemble(rt.alloc(), ALONG)?;
-    let verified = program(rt.alloc(), &bytes)?;
-    let mut place = opened(rt.alloc(), &verified, 1, 2)?;
-    goes_on(&rt, &mut place);
-    Ok(())
+    at_place_of(rt.alloc(), ALONG, 1, 2, |place| {
+        goes_on(&rt, place);
+        Ok(())
+    })
 }
 
 #[test]
 fn version_1_is_taken(rt: HostRuntime) -> Result<(), Fail> {
-    let bytes = assemble(rt.alloc(), ALONG)?;
-    let verified = program(rt.alloc(), &bytes)?;
-    let mut place = opened(rt.alloc(), &verified, 1, 2)?;
-    prints_nine(&rt, &mut place, &NARROW_CYCLE);
-    Ok(())
+    at_place_of(rt.alloc(), ALONG, 1, 2, |place| {
+        prints_nine(&rt, place, &NARROW_CYCLE);
+        Ok(())
+    })
 }
 
 /// Main comes back and closes its finish. Then nothing begins under it.
@@ -187,9 +183,8 @@ fn closes(rt: &impl Abort, place: &mut Place) {
 
 #[test]
 fn after_the_finish(rt: HostRuntime) -> Result<(), Fail> {
-    let bytes = assemble(rt.alloc(), AWAY)?;
-    let verified = program(rt.alloc(), &bytes)?;
-    let mut place = opened(rt.alloc(), &verified, 0, 3)?;
-    closes(&rt, &mut place);
-    Ok(())
+    at_place_of(rt.alloc(), AWAY, 0, 3, |place| {
+        closes(&rt, place);
+        Ok(())
+    })
 }

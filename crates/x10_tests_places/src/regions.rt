@@ -1,5 +1,5 @@
 //! Atomic regions: what they keep out at their place, and what goes on.
-use crate::places::{assembled, idles, is_closed, opened, program, ran};
+use crate::places::{at_place_of, idles, is_closed, ran};
 use std::test::*;
 use x10_place::{Line, Place, Stepped};
 
@@ -50,37 +50,36 @@ fn keeps_others_out(place: &mut Place, one: usize, other: usize) -> bool {
 
 #[test]
 fn one_inside_keeps_the_others_out(rt: HostRuntime) -> Result<(), Fail> {
-    let image = assembled(rt.alloc(), COUNTED)?;
-    let verified = program(rt.alloc(), &image)?;
     for (one, other) in [(1, 2), (2, 1)] {
-        let mut place = opened(rt.alloc(), &verified, 0, 1)?;
-        assert!(rt; move_on(&mut place, 0, 5));
-        assert!(rt; place.inside().is_none());
-        for _ in 0..6 {
-            assert!(rt; move_on(&mut place, one, 1));
-            assert!(rt; keeps_others_out(&mut place, one, other));
-        }
-        assert!(rt; move_on(&mut place, one, 1));
-        assert!(rt; place.inside().is_none());
-        assert!(rt; move_on(&mut place, other, 1));
-        assert!(rt; keeps_others_out(&mut place, other, one));
+        at_place_of(rt.alloc(), COUNTED, 0, 1, |place| {
+            assert!(rt; move_on(place, 0, 5));
+            assert!(rt; place.inside().is_none());
+            for _ in 0..6 {
+                assert!(rt; move_on(place, one, 1));
+                assert!(rt; keeps_others_out(place, one, other));
+            }
+            assert!(rt; move_on(place, one, 1));
+            assert!(rt; place.inside().is_none());
+            assert!(rt; move_on(place, other, 1));
+            assert!(rt; keeps_others_out(place, other, one));
+            Ok(())
+        })?;
     }
     Ok(())
 }
 
 #[test]
 fn a_stretch_goes_through_a_region(rt: HostRuntime) -> Result<(), Fail> {
-    let image = assembled(rt.alloc(), COUNTED)?;
-    let verified = program(rt.alloc(), &image)?;
-    let mut place = opened(rt.alloc(), &verified, 0, 1)?;
-    assert!(rt; move_on(&mut place, 0, 5));
-    assert!(rt; ran(&mut place, 1, 3) == Some(3));
-    assert!(rt; keeps_others_out(&mut place, 1, 2));
-    assert!(rt; ran(&mut place, 1, 10) == Some(5));
-    assert!(rt; place.inside().is_none());
-    assert!(rt; ran(&mut place, 2, 10) == Some(8));
-    assert!(rt; ran(&mut place, 0, 10) == Some(5));
-    assert!(rt; is_closed(&place));
-    assert!(rt; matches!(place.output(), [Line::Int(2)]));
-    Ok(())
+    at_place_of(rt.alloc(), COUNTED, 0, 1, |place| {
+        assert!(rt; move_on(place, 0, 5));
+        assert!(rt; ran(place, 1, 3) == Some(3));
+        assert!(rt; keeps_others_out(place, 1, 2));
+        assert!(rt; ran(place, 1, 10) == Some(5));
+        assert!(rt; place.inside().is_none());
+        assert!(rt; ran(place, 2, 10) == Some(8));
+        assert!(rt; ran(place, 0, 10) == Some(5));
+        assert!(rt; is_closed(place));
+        assert!(rt; matches!(place.output(), [Line::Int(2)]));
+        Ok(())
+    })
 }

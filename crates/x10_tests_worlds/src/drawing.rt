@@ -8,6 +8,7 @@ use x10_asm::assemble;
 use x10_draw::{Counts, Drawing, push_escaped};
 use x10_model::Event;
 use x10_samples::{AWAY, SEVEN};
+use x10_verify::Verified;
 use x10_world::{Done, Rounds, World};
 
 /// Makes the next events of a run, at most `limit`, and notes them.
@@ -60,17 +61,40 @@ fn pictured_from(alloc: Global, text: &str, places: u16, before: u64) -> Result<
     Ok(svg)
 }
 
-/// The picture of a run of which a drawing wasn't told the first `missed` events.
+// (a check grows with the values that are dropped times the ways to return, so this is three functions)
+
+/// Makes the next events of a run, at most `limit`, and doesn't keep what was noted of them.
+fn missed_of(
+    alloc: Global,
+    verified: &Verified,
+    rounds: &mut Rounds,
+    world: &mut World,
+    limit: u64,
+) -> Result<(), Fail> {
+    let mut drawing = Drawing::new(alloc, verified, world, 0)?;
+    noted(rounds, world, &mut drawing, limit)
+}
+
+/// The picture of a run in a world of which a drawing wasn't told the first `missed` events.
+fn late_in(
+    alloc: Global,
+    verified: &Verified,
+    world: &mut World,
+    missed: u64,
+) -> Result<String, Fail> {
+    let mut drawing = Drawing::new(alloc, verified, world, 0)?;
+    let mut rounds = Rounds::new(alloc, world)?;
+    missed_of(alloc, verified, &mut rounds, world, missed)?;
+    noted(&mut rounds, world, &mut drawing, 1000)?;
+    Ok(drawing.svg()?)
+}
+
+/// The same for a program as text.
 fn pictured_late(alloc: Global, text: &str, places: u16, missed: u64) -> Result<String, Fail> {
     let image = assemble(alloc, text)?;
     let verified = program(alloc, &image)?;
     let mut world = world_of(alloc, &verified, places)?;
-    let mut drawing = Drawing::new(alloc, &verified, &world, 0)?;
-    let mut rounds = Rounds::new(alloc, &world)?;
-    let mut other = Drawing::new(alloc, &verified, &world, 0)?;
-    noted(&mut rounds, &mut world, &mut other, missed)?;
-    noted(&mut rounds, &mut world, &mut drawing, 1000)?;
-    Ok(drawing.svg()?)
+    late_in(alloc, &verified, &mut world, missed)
 }
 
 /// How high a picture is, in pixels.
