@@ -1,12 +1,13 @@
 -- When a book balances, pair by pair.
-use Rattle.std.proofs.Common.{◌≡◌, ◌↔◌, ℕ, ◌+◌, ◌*◌, ◌<◌, ◌≤◌, ◌==◌, ◌&&◌, nat_lt, max, Bool, true, false, if◌then◌else◌, List, length, replicate, slice_index, slice_index_or, ◌⊎◌, inl, inr, refl, sym, ◌∙◌, ap, subst, arith, IsTrue}
+use Rattle.std.proofs.Common.{◌≡◌, ◌↔◌, ℕ, ◌+◌, ◌*◌, ◌<◌, ◌≤◌, ◌==◌, ◌&&◌, nat_lt, max, Bool, true, false, if◌then◌else◌, List, length, replicate, slice_index, slice_index_or, ◌⊎◌, inl, inr, refl, sym, ◌∙◌, ap, subst, arith, IsTrue, ◌^◌}
 use Rattle.std.proofs.Math.Path.{fun_ext}
-use Rattle.std.proofs.lemmas.List.{get_or-replicate}
+use Rattle.std.proofs.lemmas.List.{get_or-replicate, length-replicate}
 use Rattle.std.proofs.Math.ListN.{get_or-eq_default}
 use Rattle.std.proofs.lemmas.Bool.{eqb-true, ne_eqb, eq-eqb, cases_eq, lt-ltb, le-ltb, ltb-true, and_from, and_parts}
 use Rattle.x10_model.specs.Totals as totals
 use Rattle.x10_model.specs.Totals.{Entry, Cut, zeros, reported, larger, merged, seen_from, IsBalanced}
 use Rattle.x10_finish.specs.declared.pairs.Pair.{Pair}
+use Rattle.x10_finish.specs.Books.{AreKept}
 use Rattle.x10_finish.specs.Pairs.{no_pair, pair_at, difference, unequal_in, merged_to, agreed}
 use Rattle.x10_finish.proofs.Sums.{square_zero, zero_square}
 use Rattle.x10_finish.proofs.Squares.{place_below}
@@ -48,6 +49,20 @@ none_unequal home n pairs e = square_zero (λ a b. difference home a b (pair_at 
 pub none_kept : (n : ℕ) (pairs : List Pair) → pairs ≡ replicate (n * n) no_pair → kept_by (pair_at n pairs) ≡ (λ p. zeros)
 none_kept n pairs e = fun_ext (λ p. same_entry (kept_by (pair_at n pairs) p) zeros (λ q. ap (λ (v : Pair). v.sent) (none_at n p q pairs e))
     (λ q. ap (λ (v : Pair). v.received) (none_at n q p pairs e)))
+
+-- as many pairs of zeros as there are pairs of places
+pub none_in : (n a b : ℕ) (pairs : List Pair) → a ≡ n → b ≡ n → pairs ≡ replicate (a * b) no_pair → pairs ≡ replicate (n * n) no_pair
+none_in n a b pairs ea eb e = e ∙ ap (λ m. replicate (m * b) no_pair) ea ∙ ap (λ m. replicate (n * m) no_pair) eb
+
+pub blank_kept : (home n : ℕ) (pairs : List Pair) → home < n → n < 2 ^ 16 → pairs ≡ replicate (n * n) no_pair
+    → AreKept home n 0 true pairs
+blank_kept home n pairs is_place few e = record {
+  is_place = is_place;
+  few = few;
+  whole = ap length e ∙ length-replicate (n * n) no_pair;
+  counted = sym (none_unequal home n pairs e);
+  none = λ blank. e;
+}
 
 -- ---- a report
 

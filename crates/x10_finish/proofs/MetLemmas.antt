@@ -1,18 +1,20 @@
 -- The counts of the finishes that were met: one is found, written, entered or goes.
-use Rattle.std.proofs.Common.{◌≡◌, ◌-◌, ◌<◌, ◌==◌, ◌&&◌, max, ℕ, Bool, true, false, cond, List, ◌∷◌, length, Option, Some, None, Result, Err, OnOk, IfErr, MatchOption, refl, sym, ◌∙◌, ap, subst, arith}
+use Rattle.std.proofs.Common.{◌≡◌, ◌-◌, ◌<◌, ◌==◌, ◌&&◌, ◌+◌, ◌^◌, ◌⊎◌, inl, inr, max, ℕ, Bool, true, false, cond, List, ◌∷◌, length, Option, Some, None, Result, Err, OnOk, IfErr, MatchOption, refl, sym, ◌∙◌, ap, subst, arith}
 use Rattle.std.proofs.lemmas.Bool.{ne_eqb}
 use Rattle.x10_kinds.specs.declared.limit.Limit.TheVariants as limits
 use Rattle.x10_kinds.specs.declared.stop.Stop.{Stop}
 use Rattle.x10_kinds.specs.declared.stop.Stop.TheVariants as stop
 use Rattle.x10_model.specs.declared.finish.Finish.{Finish}
 use Rattle.x10_model.specs.Worlds.{same_finish}
-use Rattle.x10_model.proofs.SameFinishes.{same_either, same_is}
+use Rattle.x10_model.specs.Totals.{nothing}
+use Rattle.x10_model.proofs.SameFinishes.{same_either, same_is, same_self}
 use Rattle.x10_finish.specs.declared.count.Count.{Count}
 use Rattle.x10_finish.specs.declared.met.Named.{Named}
 use Rattle.x10_finish.specs.declared.count.Change.{Change}
+use Rattle.x10_finish.specs.declared.count.Change.TheVariants.{Begins, Sends, Receives}
 use Rattle.x10_finish.specs.Counts.{IsFull, IsWhole, changed, counted}
 use Rattle.x10_finish.specs.Ledgers.{count_of}
-use Rattle.x10_finish.specs.Met.{IsApart, IsCounted, Lowers, NoneAbove, Removes, Writes, is_of_finish, listed}
+use Rattle.x10_finish.specs.Met.{IsApart, IsCounted, Lowers, Meets, NoneAbove, Removes, Writes, if_met, is_of_finish, listed}
 use Rattle.x10_finish.proofs.Ledgers.{if_err}
 
 -- ---- the latest one
@@ -38,6 +40,22 @@ latest_goes n others k same apart =
     subst (λ f. Removes (listed (Some n) others) f others) (sym (same_is k n.finish same))
     (λ q. gone (same_finish q n.finish) n.count (count_of others q) (λ e. ap (count_of others) (same_is q n.finish e) ∙ apart)
     ∙ ap (λ b. cond b None (cond (same_finish q n.finish) (Some n.count) (count_of others q))) (same_either q n.finish))
+
+false_true : false ≡ true → ⊥
+false_true e = grind (arith, e)
+
+-- the latest one is that of a finish, which was met
+pub met_of : (b : Bool) (o : Option Named) (f : Finish) → is_of_finish (if_met b o) f ≡ true → b ≡ true
+met_of true o f e = refl
+met_of false o f e = absurd (false_true e)
+
+pub same_of : (b : Bool) (o : Option Named) (n : Named) (f : Finish) → is_of_finish (if_met b o) f ≡ true → o ≡ Some n
+    → same_finish f n.finish ≡ true
+same_of b o n f e is = ap (λ t. is_of_finish t f) (sym (ap (λ t. if_met t o) (met_of b o f e) ∙ is)) ∙ e
+
+pub shown_of : (b : Bool) (o : Option Named) (n : Named) (f : Finish) → is_of_finish (if_met b o) f ≡ true → o ≡ Some n
+    → if_met b o ≡ Some n
+shown_of b o n f e is = ap (λ t. if_met t o) (met_of b o f e) ∙ is
 
 -- ---- one of the others
 
@@ -156,3 +174,28 @@ none_either false o e = e
 
 pub above_removed : (highest : ℕ) (old new : List (Finish × Count)) (k : Finish) → NoneAbove highest old → Removes old k new → NoneAbove highest new
 above_removed highest old new k none h f lt = h f ∙ none_either (same_finish k f) (count_of old f) (none f lt)
+
+-- ---- of a finish that is met now, nothing is as large as it can be
+
+not_largest : 0 + 1 ≡ 2 ^ 32 → ⊥
+not_largest e = omega (arith, e)
+
+pub none_full : (change : Change) → IsFull change nothing → ⊥
+none_full Begins e = not_largest e
+none_full (Sends to) e = not_largest e
+none_full (Receives from) (inl e) = not_largest e
+none_full (Receives from) (inr e) = not_largest e
+
+abbrev count_or : Count → Option Count → Count
+count_or c None = c
+count_or c (Some w) = w
+
+some_same : (c w : Count) → Some c ≡ Some w → c ≡ w
+some_same c w e = ap (λ (o : Option Count). count_or c o) e
+
+pub first_not_full : (old new : List (Finish × Count)) (f : Finish) (places : ℕ) (change : Change) (was : Count) → Meets old f places new
+    → count_of new f ≡ Some was → IsFull change (counted was) → ⊥
+first_not_full old new f places change was m there full =
+    let is : Some m.count ≡ Some was =
+    sym (m.writes f ∙ ap (λ b. cond b (Some m.count) (count_of old f)) (same_self f f refl)) ∙ there in
+    none_full change (subst (IsFull change) (sym (ap counted (some_same m.count was is)) ∙ m.nothing_yet) full)

@@ -1,10 +1,11 @@
 -- What a place counts of the finishes that it has met, the latest one before the others if it lies beside them.
-use Rattle.std.specs.Prelude.{◌≡◌, ℕ, ◌<◌, Bool, false, ◌-◌, List, ◌∷◌, Option, Some, None, Result, Err, OnOk, IfErr, cond, length}
+use Rattle.std.specs.Prelude.{◌≡◌, ℕ, ◌<◌, Bool, true, false, ◌-◌, List, ◌∷◌, Option, Some, None, Result, Err, OnOk, IfErr, cond, length}
 use Rattle.x10_kinds.specs.declared.limit.Limit.TheVariants as limits
 use Rattle.x10_kinds.specs.declared.stop.Stop.{Stop}
 use Rattle.x10_kinds.specs.declared.stop.Stop.TheVariants as stop
 use Rattle.x10_model.specs.declared.finish.Finish.{Finish}
 use Rattle.x10_model.specs.Worlds.{same_finish}
+use Rattle.x10_model.specs.Totals.{nothing}
 use Rattle.x10_finish.specs.declared.count.Count.{Count}
 use Rattle.x10_finish.specs.declared.count.Change.{Change}
 use Rattle.x10_finish.specs.declared.met.Named.{Named}
@@ -14,6 +15,11 @@ use Rattle.x10_finish.specs.Ledgers.{count_of}
 abbrev pub listed : Option Named → List (Finish × Count) → List (Finish × Count)
 listed None others = others
 listed (Some latest) others = (latest.finish, latest.count) ∷ others
+
+-- the latest one, where its finish was met
+abbrev pub if_met : Bool → Option Named → Option Named
+if_met true latest = latest
+if_met false latest = None
 
 -- whether it is that of a finish
 abbrev pub is_of_finish : Option Named → Finish → Bool
@@ -28,6 +34,13 @@ IsApart (Some latest) others = count_of others latest.finish ≡ None
 -- one count is written or entered
 abbrev pub Writes : List (Finish × Count) → Finish → Count → List (Finish × Count) → Type 0
 Writes old k w new = (q : Finish) → count_of new q ≡ cond (same_finish k q) (Some w) (count_of old q)
+
+-- a count of nothing is entered, with two numbers for each place
+pub record Meets (old : List (Finish × Count)) (f : Finish) (places : ℕ) (new : List (Finish × Count)) : Type 0 where
+  pub count : Count
+  pub nothing_yet : counted count ≡ nothing
+  pub whole : IsWhole places count
+  pub writes : Writes old f count new
 
 -- one count goes
 abbrev pub Removes : List (Finish × Count) → Finish → List (Finish × Count) → Type 0

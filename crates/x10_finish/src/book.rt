@@ -1,4 +1,4 @@
-ghost use Rattle.std.specs.Prelude.{◌≡◌, ◌↔◌, ◌<◌, ◌*◌, ◌^◌, ◌≤◌, ℕ, IsTrue, IfOk, IfErr, length, slice_index};
+ghost use Rattle.std.specs.Prelude.{◌≡◌, ◌↔◌, ◌<◌, ◌*◌, ◌^◌, ◌≤◌, ℕ, IsTrue, IfOk, IfErr, OnOk, length, slice_index};
 ghost use Rattle.x10_kinds.specs.declared.stop.Stop.TheVariants as stop;
 ghost use Rattle.x10_model.specs.Totals.{Totals, IsBalanced, IsDoneAt, entry_of, seen_from};
 ghost use Rattle.x10_finish.specs.Ledgers.{totals_of};
@@ -45,28 +45,8 @@ impl Book {
         ensures ok { IfOk result (IsOpened finish places) }
         ensures err { IfErr result (λ why. why ≡ stop.Memory) }
     {
-        Book::blank(PairList::new(alloc), finish, places)
-    }
-
-    /// The same in the memory of the book of a finish that has ended. Takes constant time where that was one of as many places, and
-    /// asks for more memory only where it was one of fewer.
-    pub fn reopen(self, finish: Finish, places: u16) -> Result<Book, Stop>
-        requires { finish.home < places }
-        ensures ok { IfOk result (IsOpened finish places) }
-        ensures err { IfErr result (λ why. why ≡ stop.Memory) }
-    {
-        let Book { pairs, .. } = self;
-        Book::blank(pairs, finish, places)
-    }
-
-    /// A book in which nothing was reported yet, in the memory of a list.
-    fn blank(pairs: PairList, finish: Finish, places: u16) -> Result<Book, Stop>
-        requires { finish.home < places }
-        ensures ok { IfOk result (IsOpened finish places) }
-        ensures err { IfErr result (λ why. why ≡ stop.Memory) }
-    {
-        let size = usize::from(places) * usize::from(places);
-        let pairs = pairs.zeroed(size)?;
+        let mut pairs = PairList::new(alloc);
+        pairs.zero(usize::from(places) * usize::from(places))?;
         Ok(Book {
             finish,
             places,
@@ -75,6 +55,24 @@ impl Book {
             blank: true,
             hint: Cell::new(0),
         })
+    }
+
+    /// Makes of the book of a finish that has ended that of one that was opened. Takes constant time where that was one of as many
+    /// places, and asks for more memory only where it was one of fewer; where that is refused, nothing has changed.
+    #[inline(always)]
+    pub fn reopen(&mut self, finish: Finish, places: u16) -> Result<(), Stop>
+        requires { finish.home < places }
+        ensures ok { OnOk result (IsOpened finish places self.new) }
+        ensures err { IfErr result (λ why. (why ≡ stop.Memory) × (self.new ≡ self.old)) }
+    {
+        self.pairs
+            .zero(usize::from(places) * usize::from(places))?;
+        self.finish = finish;
+        self.places = places;
+        self.unequal = 0;
+        self.blank = true;
+        self.hint.set(0);
+        Ok(())
     }
 
     /// The finish whose book it is. Constant time.

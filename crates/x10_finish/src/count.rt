@@ -1,6 +1,6 @@
 //! What one place counts of one finish.
 
-ghost use Rattle.std.specs.Prelude.{◌≡◌, ◌+◌, ◌-◌, ◌<◌, ◌^◌, ℕ, IfOk, IfErr, OnOk, length, replicate, Err};
+ghost use Rattle.std.specs.Prelude.{◌≡◌, ◌+◌, ◌-◌, ◌<◌, ◌^◌, ℕ, IfOk, IfErr, OnOk, length, Err};
 ghost use Rattle.x10_kinds.specs.declared.limit.Limit.TheVariants as limits;
 ghost use Rattle.x10_kinds.specs.declared.stop.Stop.TheVariants as stop;
 ghost use Rattle.x10_model.specs.Totals.{nothing, ends_one};
@@ -43,10 +43,10 @@ fn no_count(alloc: Global, places: u16) -> Result<Count, AllocError>
     })
 }
 
-/// A count of nothing in the memory of another one. Asks for memory only where that was of fewer places.
-fn cleared(mut count: Count, places: u16) -> Result<Count, AllocError>
-    ensures nothing { IfOk result (λ c. counted c ≡ nothing) }
-    ensures whole { IfOk result (IsWhole places) }
+/// Makes a count one of nothing. Asks for memory only where it was of fewer places.
+pub fn clear(count: &mut Count, places: u16) -> Result<(), AllocError>
+    ensures nothing { OnOk result (counted count.new ≡ nothing) }
+    ensures whole { OnOk result (IsWhole places count.new) }
 {
     let places = usize::from(places);
     count.live = 0;
@@ -54,7 +54,7 @@ fn cleared(mut count: Count, places: u16) -> Result<Count, AllocError>
     count.sent.resize(places, 0)?;
     count.received.clear();
     count.received.resize(places, 0)?;
-    Ok(count)
+    Ok(())
 }
 
 /// A count of nothing for `places` places: one of those to spare, where there is one. Else there is room for one afterwards.
@@ -62,11 +62,12 @@ pub fn fresh_count(alloc: Global, spare: &mut Vec<Count>, places: u16) -> Result
     ensures nothing { IfOk result (λ c. counted c ≡ nothing) }
     ensures whole { IfOk result (IsWhole places) }
 {
-    let Some(count) = spare.pop() else {
+    let Some(mut count) = spare.pop() else {
         spare.reserve(1)?;
         return no_count(alloc, places);
     };
-    cleared(count, places)
+    clear(&mut count, places)?;
+    Ok(count)
 }
 
 /// Takes a count of a finish that ended. Asks for no memory: where there is no room for it, it is dropped.

@@ -3,9 +3,9 @@ ghost use Rattle.std.specs.Prelude.{◌≡◌, ◌-◌, ◌<◌, ℕ, Some, None
 ghost use Rattle.x10_kinds.specs.declared.stop.Stop.TheVariants as stop;
 ghost use Rattle.x10_finish.specs.Counts.{Fits};
 ghost use Rattle.x10_finish.specs.Ledgers.{count_of, counted_or_nothing};
-ghost use Rattle.x10_finish.specs.Met.{IsApart, IsCounted, Lowers, Removes, Writes, is_of_finish, listed};
+ghost use Rattle.x10_finish.specs.Met.{IsCounted, Lowers, Meets, Removes, if_met, is_of_finish, listed};
 
-use crate::count::{Change, Count, apply};
+use crate::count::{Change, Count, apply, clear, fresh_count, keep_count};
 use crate::table::Table;
 use std::alloc::Global;
 use std::marker::Model;
@@ -20,24 +20,29 @@ pub struct Named {
 }
 
 /// What is counted of each finish that was met. The one that was met last lies beside the others until the next one is met: so it
-/// takes no search, and a finish that ends before another one is met none at all.
+/// takes no search, and a finish that ends before another one is met none at all; then its count stays where it lies for the next.
 #[derive(Drop)]
 pub struct Met {
+    alloc: Global,
+    /// Whether the latest count is that of a finish. Else the next finish takes it.
+    is_met: bool,
     latest: Option<Named>,
     others: Table,
+    /// Counts of finishes that ended: one that is met takes one of these, so that finishes in a loop ask for no more memory.
+    spare: Vec<Count>,
 }
 
 impl Model for Met {
     ghost use Rattle.std.specs.Prelude.{List};
     ghost use Rattle.x10_model.specs.declared.finish.Finish.{Finish};
     ghost use Rattle.x10_finish.specs.declared.count.Count.{Count};
-    ghost use Rattle.x10_finish.specs.Met.{IsApart, listed};
+    ghost use Rattle.x10_finish.specs.Met.{IsApart, if_met, listed};
 
     ghost Value = { List (Finish × Count) };
 
-    ghost view = { λ m. listed m.latest m.others };
+    ghost view = { λ m. listed (if_met m.is_met m.latest) m.others };
 
-    ghost invariant = { λ m. IsApart m.latest m.others };
+    ghost invariant = { λ m. IsApart (if_met m.is_met m.latest) m.others };
 }
 
 /// Puts the latest count among the others. Where memory is refused, nothing has changed.
@@ -61,11 +66,11 @@ fn set_aside(latest: &mut Option<Named>, others: &mut Table) -> Result<(), Stop>
 
 /// Whether the latest count is that of a finish.
 #[inline(always)]
-fn is_of(latest: &Option<Named>, finish: Finish) -> bool
-    ensures { result ≡ is_of_finish latest.now finish }
+fn is_of(is_met: bool, latest: &Option<Named>, finish: Finish) -> bool
+    ensures { result ≡ is_of_finish (if_met is_met latest.now) finish }
 {
     match latest {
-        Some(latest) => finish == latest.finish,
+        Some(latest) => is_met && finish == latest.finish,
         None => false,
     }
 }
@@ -76,8 +81,11 @@ impl Met {
         ensures { result ≡ [] }
     {
         Met {
+            alloc,
+            is_met: false,
             latest: None,
             others: Table::new(alloc),
+            spare: Vec::new(alloc),
         }
     }
 
@@ -88,7 +96,7 @@ impl Met {
             (λ count. count_of self.now finish ≡ Some count.now) }
     {
         match &self.latest {
-            Some(latest) if finish == latest.finish => Some(&latest.count),
+            Some(latest) if self.is_met && finish == latest.finish => Some(&latest.count),
             _ => self.others.get(finish),
         }
     }
@@ -101,7 +109,7 @@ impl Met {
         ensures { MatchOption result ((count_of self.old finish ≡ None) × (self.new ≡ self.old))
             (λ counted. IsCounted self.old finish change counted self.new) }
     {
-        if !is_of(&self.latest, finish) {
+        if !is_of(self.is_met, &self.latest, finish) {
             return self.others.count(finish, change);
         }
         match &mut self.latest {
@@ -116,7 +124,7 @@ impl Met {
         requires { 0 < (counted_or_nothing (count_of self.old finish)).live }
         ensures { Lowers self.old finish self.new }
     {
-        if !is_of(&self.latest, finish) {
+        if !is_of(self.is_met, &self.latest, finish) {
             return self.others.end(finish);
         }
         if let Some(latest) = &mut self.latest {
@@ -124,25 +132,42 @@ impl Met {
         }
     }
 
-    /// The count of a finish that is met now. Where memory is refused, nothing has changed.
-    pub fn enter(&mut self, finish: Finish, count: Count) -> Result<(), Stop>
+    /// A finish of so many places is met now, of which nothing was counted. Where memory is refused, nothing has changed.
+    pub fn meet(&mut self, finish: Finish, places: u16) -> Result<(), Stop>
         requires { count_of self.old finish ≡ None }
-        ensures ok { OnOk result (Writes self.old finish count self.new) }
+        ensures ok { OnOk result (Meets self.old finish places self.new) }
         ensures err { IfErr result (λ why. (why ≡ stop.Memory) × (self.new ≡ self.old)) }
     {
+        if !self.is_met {
+            if let Some(latest) = &mut self.latest {
+                if clear(&mut latest.count, places).is_err() {
+                    return Err(Stop::Memory);
+                }
+                latest.finish = finish;
+                self.is_met = true;
+                return Ok(());
+            }
+        }
+        let Ok(count) = fresh_count(self.alloc, &mut self.spare, places) else {
+            return Err(Stop::Memory);
+        };
         set_aside(&mut self.latest, &mut self.others)?;
         self.latest = Some(Named { finish, count });
+        self.is_met = true;
         Ok(())
     }
 
-    /// Takes the count of a finish away, if it was met.
-    pub fn remove(&mut self, finish: Finish) -> Option<Count>
+    /// Takes the count of a finish away, if it was met. Asks for no memory: where there is no room to keep it for the next finish,
+    /// it is dropped.
+    pub fn forget(&mut self, finish: Finish)
         ensures { Removes self.old finish self.new }
     {
-        if is_of(&self.latest, finish) {
-            let Named { count, .. } = self.latest.take()?;
-            return Some(count);
+        if is_of(self.is_met, &self.latest, finish) {
+            self.is_met = false;
+            return;
         }
-        self.others.remove(finish)
+        if let Some(count) = self.others.remove(finish) {
+            keep_count(&mut self.spare, count);
+        }
     }
 }

@@ -1,6 +1,6 @@
 //! Pairs of numbers that are all set to 0 at once.
 
-ghost use Rattle.std.specs.Prelude.{◌≡◌, ◌<◌, IfOk, IfErr, length, replicate, slice_index_or, slice_set};
+ghost use Rattle.std.specs.Prelude.{◌≡◌, ◌<◌, IfErr, OnOk, length, replicate, slice_index_or, slice_set};
 ghost use Rattle.x10_kinds.specs.declared.stop.Stop.TheVariants as stop;
 ghost use Rattle.x10_finish.specs.Pairs.{no_pair};
 
@@ -51,33 +51,37 @@ impl PairList {
         }
     }
 
-    /// So many pairs of zeros, in the memory of this list. Takes constant time where it had as many, and asks for memory only
-    /// where it had fewer. (Once in 2^32 times it takes the time of as many pairs.)
-    pub fn zeroed(self, size: usize) -> Result<PairList, Stop>
-        ensures ok { IfOk result (λ l. l ≡ replicate size no_pair) }
-        ensures err { IfErr result (λ why. why ≡ stop.Memory) }
+    /// Makes so many pairs of zeros of the list. Takes constant time where it had as many, and asks for memory only where it had
+    /// fewer; where that is refused, nothing has changed. (Once in 2^32 times it takes the time of as many pairs.)
+    #[inline(always)]
+    pub fn zero(&mut self, size: usize) -> Result<(), Stop>
+        ensures ok { OnOk result (self.new ≡ replicate size no_pair) }
+        ensures err { IfErr result (λ why. (why ≡ stop.Memory) × (self.new ≡ self.old)) }
     {
-        let PairList { round, items } = self;
-        match round.checked_add(1) {
-            Some(round) if items.len() == size => Ok(PairList { round, items }),
-            _ => PairList::filled(items, size),
+        match self.round.checked_add(1) {
+            Some(round) if self.items.len() == size => {
+                self.round = round;
+                Ok(())
+            }
+            _ => self.fill(size),
         }
     }
 
-    /// So many pairs of zeros, each written, in the memory of a list.
-    fn filled(mut items: Vec<Stamped>, size: usize) -> Result<PairList, Stop>
-        ensures ok { IfOk result (λ l. l ≡ replicate size no_pair) }
-        ensures err { IfErr result (λ why. why ≡ stop.Memory) }
+    /// Makes so many pairs of zeros of the list, each written.
+    fn fill(&mut self, size: usize) -> Result<(), Stop>
+        ensures ok { OnOk result (self.new ≡ replicate size no_pair) }
+        ensures err { IfErr result (λ why. (why ≡ stop.Memory) × (self.new ≡ self.old)) }
     {
         let none = Stamped {
             round: 0,
             pair: NO_PAIR,
         };
-        items.clear();
-        if items.resize(size, none).is_err() {
+        if self.items.resize(size, none).is_err() {
             return Err(Stop::Memory);
         }
-        Ok(PairList { round: 0, items })
+        self.items.fill(none);
+        self.round = 0;
+        Ok(())
     }
 
     /// A pair, by its number.

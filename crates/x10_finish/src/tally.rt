@@ -6,7 +6,7 @@ ghost use Rattle.x10_finish.specs.Counts.{Fits, IsFull, IsLargest, changed};
 ghost use Rattle.x10_finish.specs.declared.count.Change.TheVariants as change;
 ghost use Rattle.x10_finish.specs.Ledgers.{Ledger, count_of, totals_of, is_met, Counts, Forgets, Refuses, gives_report, AreDue, IsAnswer};
 
-use crate::count::{Change, Count, apply, fresh_count, keep_count};
+use crate::count::{Change, Count};
 use crate::met::Met;
 use std::alloc::Global;
 use std::marker::Model;
@@ -25,8 +25,6 @@ pub struct Tally {
     place: u16,
     places: u16,
     counts: Met,
-    /// Counts of finishes that ended: one that is met takes one of these, so that finishes in a loop ask for no more memory.
-    spare: Vec<Count>,
 }
 
 impl Model for Tally {
@@ -52,7 +50,6 @@ impl Tally {
             place,
             places,
             counts: Met::new(alloc),
-            spare: Vec::new(alloc),
         }
     }
 
@@ -82,11 +79,11 @@ impl Tally {
         if let Some(counted) = self.counts.count(finish, change) {
             return counted;
         }
-        let Ok(mut count) = fresh_count(self.alloc, &mut self.spare, self.places) else {
-            return Err(Stop::Memory);
-        };
-        apply(&mut count, change)?;
-        self.counts.enter(finish, count)
+        self.counts.meet(finish, self.places)?;
+        match self.counts.count(finish, change) {
+            Some(counted) => counted,
+            None => Ok(()),
+        }
     }
 
     /// Makes room to count a finish: afterwards counting it is refused only by a limit. Nothing is counted.
@@ -98,10 +95,7 @@ impl Tally {
         if self.counts.get(finish).is_some() {
             return Ok(());
         }
-        let Ok(count) = fresh_count(self.alloc, &mut self.spare, self.places) else {
-            return Err(Stop::Memory);
-        };
-        self.counts.enter(finish, count)
+        self.counts.meet(finish, self.places)
     }
 
     /// An activity is put out to a place under a finish, or shifts there.
@@ -209,13 +203,12 @@ impl Tally {
     pub fn forget(&mut self, finish: Finish)
         ensures { Forgets self.old finish self.new }
     {
-        if let Some(count) = self.counts.remove(finish) {
-            keep_count(&mut self.spare, count);
-        }
+        self.counts.forget(finish);
     }
 
     /// What was counted of a finish, by one look: how many of its activities live here, how many were sent to each place, and how
     /// many came from each; no numbers where the finish was not met yet.
+    #[inline(always)]
     pub fn totals(&self, finish: Finish) -> (u32, &[u32], &[u32])
         ensures live { result.0 ≡ (totals_of self.now finish).live }
         ensures sent { (p : ℕ) → slice_index result.1.now p

@@ -1,5 +1,5 @@
 -- The books of finishes that are open, the latest before the others if it lies beside them.
-use Rattle.std.specs.Prelude.{◌≡◌, ◌<◌, ◌==◌, ℕ, List, ◌∷◌, Option, Some, None, cond, if◌then◌else◌}
+use Rattle.std.specs.Prelude.{◌≡◌, ◌<◌, ◌==◌, ℕ, Bool, true, false, List, ◌∷◌, Option, Some, None, cond, if◌then◌else◌}
 use Rattle.std.specs.Ordering.{nat_cmp}
 use Rattle.std.specs.BTreeMap.{is_at}
 use Rattle.x10_model.specs.declared.finish.Finish.{Finish}
@@ -10,6 +10,11 @@ use Rattle.x10_place.specs.Stays.{book_at}
 abbrev pub listed : Option Numbered → List (ℕ × Kept) → List (ℕ × Kept)
 listed None others = others
 listed (Some latest) others = (latest.number, latest.book) ∷ others
+
+-- the latest one, where its finish is open
+abbrev pub if_open : Bool → Option Numbered → Option Numbered
+if_open true latest = latest
+if_open false latest = None
 
 -- without the one with a number
 abbrev pub without : Option Numbered → ℕ → Option Numbered

@@ -2,7 +2,7 @@
 ghost use Rattle.std.specs.Prelude.{◌≡◌, ◌<◌, ℕ, [], None, Some, OnOk, IfOk, IfErr, MatchOption, length};
 ghost use Rattle.x10_kinds.specs.declared.stop.Stop.TheVariants as stop;
 ghost use Rattle.x10_finish.specs.Books.{Kept, IsOpened};
-ghost use Rattle.x10_place.specs.OpenBooks.{Enters, IsMergedAt, Writes, listed, without};
+ghost use Rattle.x10_place.specs.OpenBooks.{Enters, IsMergedAt, Writes, if_open, listed, without};
 ghost use Rattle.x10_place.specs.Stays.{book_at};
 
 use crate::shelf::Shelf;
@@ -20,10 +20,12 @@ pub(crate) struct Numbered {
 }
 
 /// The books of finishes that are open, by number. The one that was entered last lies beside the others until the next one
-/// comes: so a finish that ends before another one opens costs no search.
+/// comes: so a finish that ends before another one opens costs no search, and its book stays where it lies.
 #[derive(Drop)]
 pub(crate) struct Books {
     alloc: Global,
+    /// Whether the finish of the latest book is open. Else the next finish takes that book.
+    is_open: bool,
     latest: Option<Numbered>,
     others: Shelf,
     /// Books of finishes that ended: one that opens takes one of these, so that finishes in a loop ask for no more memory.
@@ -33,11 +35,11 @@ pub(crate) struct Books {
 impl Model for Books {
     ghost use Rattle.std.specs.Prelude.{ℕ, List};
     ghost use Rattle.x10_finish.specs.Books.{Kept};
-    ghost use Rattle.x10_place.specs.OpenBooks.{listed};
+    ghost use Rattle.x10_place.specs.OpenBooks.{if_open, listed};
 
     ghost Value = { List (ℕ × Kept) };
 
-    ghost view = { λ b. listed b.latest b.others };
+    ghost view = { λ b. listed (if_open b.is_open b.latest) b.others };
 }
 
 /// The book of a finish that opens: one of those that ended, where there is one. Else there is room for one afterwards.
@@ -46,8 +48,9 @@ fn opened(alloc: Global, ended: &mut Vec<Book>, finish: Finish, places: u16) -> 
     ensures ok { IfOk result (IsOpened finish places) }
     ensures err { IfErr result (λ why. why ≡ stop.Memory) }
 {
-    if let Some(book) = ended.pop() {
-        return book.reopen(finish, places);
+    if let Some(mut book) = ended.pop() {
+        book.reopen(finish, places)?;
+        return Ok(book);
     }
     if ended.reserve(1).is_err() {
         return Err(Stop::Memory);
@@ -74,16 +77,15 @@ fn set_aside(latest: &mut Option<Numbered>, others: &mut Shelf) -> Result<(), St
     }
 }
 
-/// Takes the latest book away, if it has a number.
-fn taken(latest: &mut Option<Numbered>, number: u32) -> Option<Book>
-    ensures { latest.new ≡ without latest.old number }
+/// The finish of the latest book isn't open any more, if it has a number.
+#[inline(always)]
+fn end(is_open: &mut bool, latest: &Option<Numbered>, number: u32)
+    ensures { if_open is_open.new latest.now ≡ without (if_open is_open.old latest.now) number }
 {
     match latest {
-        Some(it) if it.number == number => {}
-        _ => return None,
+        Some(latest) if latest.number == number => *is_open = false,
+        _ => {}
     }
-    let Numbered { book, .. } = latest.take()?;
-    Some(book)
 }
 
 /// Takes the book of a finish that ended. Asks for no memory: where there is no room for it, it is dropped.
@@ -100,6 +102,7 @@ impl Books {
     {
         Books {
             alloc,
+            is_open: false,
             latest: None,
             others: Shelf::new(alloc),
             ended: Vec::new(alloc),
@@ -113,23 +116,33 @@ impl Books {
             (λ book. book_at self.now number ≡ Some book.now) }
     {
         match &self.latest {
-            Some(latest) if latest.number == number => Some(&latest.book),
+            Some(latest) if self.is_open && latest.number == number => Some(&latest.book),
             _ => self.others.get(number),
         }
     }
 
-    /// Enters the book of a finish that opens, one of `places` places. Where memory is refused, nothing has changed.
+    /// Enters the book of a finish that opens, one of `places` places. Where memory is refused, nothing has changed. Constant time
+    /// where the latest finish has ended, else logarithmic in the number of books.
     pub(crate) fn open(&mut self, finish: Finish, places: u16) -> Result<(), Stop>
         requires { finish.home < places }
         ensures ok { OnOk result (Enters self.old finish places self.new) }
         ensures err { IfErr result (λ why. (self.new ≡ self.old) × (why ≡ stop.Memory)) }
     {
+        if !self.is_open {
+            if let Some(latest) = &mut self.latest {
+                latest.book.reopen(finish, places)?;
+                latest.number = finish.number;
+                self.is_open = true;
+                return Ok(());
+            }
+        }
         let book = opened(self.alloc, &mut self.ended, finish, places)?;
         set_aside(&mut self.latest, &mut self.others)?;
         self.latest = Some(Numbered {
             number: finish.number,
             book,
         });
+        self.is_open = true;
         Ok(())
     }
 
@@ -139,10 +152,12 @@ impl Books {
             × (length sent.now ≡ b.places) × (length received.now ≡ b.places) }
         ensures { IsMergedAt self.old number from sent.now received.now self.new }
     {
-        if let Some(latest) = &mut self.latest {
-            if latest.number == number {
-                latest.book.merge_counts(from, sent, received);
-                return;
+        if self.is_open {
+            if let Some(latest) = &mut self.latest {
+                if latest.number == number {
+                    latest.book.merge_counts(from, sent, received);
+                    return;
+                }
             }
         }
         self.others.merge(number, from, sent, received);
@@ -153,9 +168,8 @@ impl Books {
     pub(crate) fn close(&mut self, number: u32)
         ensures { Writes self.old number None self.new }
     {
-        let latest = taken(&mut self.latest, number);
-        let other = self.others.remove(number);
-        if let Some(book) = latest.or(other) {
+        end(&mut self.is_open, &self.latest, number);
+        if let Some(book) = self.others.remove(number) {
             keep(&mut self.ended, book);
         }
     }

@@ -314,7 +314,7 @@ fn memory_is_used_again(rt: HostRuntime) -> Result<(), Fail> {
         take(&rt, &mut book, &report(alloc, 1, [0, 0, 1], [0, 0, 0])?);
         assert!(rt; !book.balanced(&Tally::new(alloc, 0, 3)));
         assert!(rt; next.home < places);
-        let book = book.reopen(next, places)?;
+        book.reopen(next, places)?;
         assert!(rt; book.finish() == next && book.places() == places);
         assert!(rt; answers(&book, &Tally::new(alloc, 0, places)) == (true, true));
     }

@@ -1,7 +1,7 @@
 use Rattle.std.proofs.Common.{rules, ◌≡◌, ℕ, length, replicate, ◌∙◌, ap, arith}
 use Rattle.x10_finish.specs.Pairs.{no_pair}
 use Rattle.x10_finish.proofs.PairLists.{all_none}
-use Rattle.x10_finish.proofs.pair_list.PairList.zeroed.Goals as goal
+use Rattle.x10_finish.proofs.pair_list.PairList.zero.Goals as goal
 
 pub returns-in-Some-clause-ok : goal.returns-in-Some-clause-ok
 returns-in-Some-clause-ok c =

@@ -1,6 +1,6 @@
 use Rattle.std.proofs.Common.{◌≡◌, ℕ, zero, suc, List, [], ◌++◌, take, replicate, slice_index, refl, ◌∙◌, ap}
 use Rattle.std.proofs.Math.Path.{fun_ext}
-use Rattle.x10_finish.proofs.count.cleared.Goals as goal
+use Rattle.x10_finish.proofs.count.clear.Goals as goal
 
 zero_at : (n p : ℕ) → slice_index (replicate n 0) p ≡ 0
 zero_at zero p = refl
