@@ -4,7 +4,6 @@ use crate::commands::{opened, verified_in};
 use crate::fault::Fault;
 use crate::schedule::schedule_of;
 use std::alloc::{AllocError, Global};
-use std::fmt::Write;
 use x10_bounds::bounds;
 use x10_explain::Source;
 use x10_image::ImageView;
@@ -59,21 +58,46 @@ fn end_of(
     let Ok(verified) = verified_in(alloc, bytes) else {
         return Err(AllocError);
     };
-    let mut text = String::new(alloc);
-    let Ok(mut world) = opened(alloc, task.places, &verified) else {
+    match counted_end(alloc, task, &verified, source, fault)? {
+        Some(end) => Ok(end),
+        None => made_end(alloc, task, &verified, source, fault),
+    }
+}
+
+/// The lines on the end of a run that is made event by event; none where it is too long for that.
+fn counted_end(
+    alloc: Global,
+    task: &Task,
+    verified: &Verified,
+    source: Option<&str>,
+    fault: Fault,
+) -> Result<Option<String>, AllocError> {
+    let Ok(mut world) = opened(alloc, task.places, verified) else {
         return Err(AllocError);
     };
-    if let Some(share) = share_of(alloc, task, &verified, &mut world, fault)? {
-        let Share { idle, events } = share;
-        writeln!(text, "Idle events: {idle} of {events}.")?;
-    } else {
-        let Ok(anew) = opened(alloc, task.places, &verified) else {
-            return Err(AllocError);
-        };
-        world = anew;
-        remake(alloc, task, &mut world, fault)?;
-    }
-    push_living(alloc, &mut text, &verified, &world, source)?;
+    let Some(share) = share_of(alloc, task, verified, &mut world, fault)? else {
+        return Ok(None);
+    };
+    let Share { idle, events } = share;
+    let mut text = format!(in alloc; "Idle events: {idle} of {events}.\n")?;
+    push_living(alloc, &mut text, verified, &world, source)?;
+    Ok(Some(text))
+}
+
+/// The lines on the end of a run whose events aren't counted.
+fn made_end(
+    alloc: Global,
+    task: &Task,
+    verified: &Verified,
+    source: Option<&str>,
+    fault: Fault,
+) -> Result<String, AllocError> {
+    let Ok(mut world) = opened(alloc, task.places, verified) else {
+        return Err(AllocError);
+    };
+    remake(alloc, task, &mut world, fault)?;
+    let mut text = String::new(alloc);
+    push_living(alloc, &mut text, verified, &world, source)?;
     Ok(text)
 }
 

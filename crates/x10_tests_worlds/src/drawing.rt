@@ -29,6 +29,35 @@ fn noted(
     Ok(())
 }
 
+// (a check grows with the values that are dropped times the ways to return, so no function here holds more than two of them)
+
+/// Makes the next events of a run, at most `limit`, and doesn't keep what was noted of them.
+fn pass(
+    alloc: Global,
+    verified: &Verified,
+    rounds: &mut Rounds,
+    world: &mut World,
+    limit: u64,
+) -> Result<(), Fail> {
+    let mut drawing = Drawing::new(alloc, verified, world, 0)?;
+    noted(rounds, world, &mut drawing, limit)
+}
+
+/// The counts and the picture of the events in a world from `before` on, at most `limit`.
+fn drawn_in(
+    alloc: Global,
+    verified: &Verified,
+    world: &mut World,
+    before: u64,
+    limit: u64,
+) -> Result<(Counts, String), Fail> {
+    let mut rounds = Rounds::new(alloc, world)?;
+    pass(alloc, verified, &mut rounds, world, before)?;
+    let mut drawing = Drawing::new(alloc, verified, world, before)?;
+    noted(&mut rounds, world, &mut drawing, limit)?;
+    Ok((drawing.counts(), drawing.svg()?))
+}
+
 /// The counts and the picture of the events of a run from `before` on, at most `limit`.
 fn drawn(
     alloc: Global,
@@ -39,12 +68,7 @@ fn drawn(
 ) -> Result<(Counts, String), Fail> {
     let verified = program(alloc, image)?;
     let mut world = world_of(alloc, &verified, places)?;
-    let mut rounds = Rounds::new(alloc, &world)?;
-    let mut missed = Drawing::new(alloc, &verified, &world, 0)?;
-    noted(&mut rounds, &mut world, &mut missed, before)?;
-    let mut drawing = Drawing::new(alloc, &verified, &world, before)?;
-    noted(&mut rounds, &mut world, &mut drawing, limit)?;
-    Ok((drawing.counts(), drawing.svg()?))
+    drawn_in(alloc, &verified, &mut world, before, limit)
 }
 
 /// The picture of a run's first events, for a program as text.
@@ -61,20 +85,6 @@ fn pictured_from(alloc: Global, text: &str, places: u16, before: u64) -> Result<
     Ok(svg)
 }
 
-// (a check grows with the values that are dropped times the ways to return, so this is three functions)
-
-/// Makes the next events of a run, at most `limit`, and doesn't keep what was noted of them.
-fn missed_of(
-    alloc: Global,
-    verified: &Verified,
-    rounds: &mut Rounds,
-    world: &mut World,
-    limit: u64,
-) -> Result<(), Fail> {
-    let mut drawing = Drawing::new(alloc, verified, world, 0)?;
-    noted(rounds, world, &mut drawing, limit)
-}
-
 /// The picture of a run in a world of which a drawing wasn't told the first `missed` events.
 fn late_in(
     alloc: Global,
@@ -84,7 +94,7 @@ fn late_in(
 ) -> Result<String, Fail> {
     let mut drawing = Drawing::new(alloc, verified, world, 0)?;
     let mut rounds = Rounds::new(alloc, world)?;
-    missed_of(alloc, verified, &mut rounds, world, missed)?;
+    pass(alloc, verified, &mut rounds, world, missed)?;
     noted(&mut rounds, world, &mut drawing, 1000)?;
     Ok(drawing.svg()?)
 }
@@ -311,15 +321,24 @@ fn a_run_drawn_from_its_middle(rt: HostRuntime) -> Result<(), Fail> {
 fn events_of_nothing_drawn(rt: HostRuntime) -> Result<(), Fail> {
     let verified = program(rt.alloc(), &SEVEN)?;
     let world = world_of(rt.alloc(), &verified, 1)?;
-    let mut drawing = Drawing::new(rt.alloc(), &verified, &world, 0)?;
-    drawing.note(&world, Event::Step(99, usize::MAX), &Done::Idle)?;
-    drawing.note(&world, Event::Deliver(99), &Done::Idle)?;
-    drawing.note(&world, Event::Deliver(99), &Done::Taken { to: 99 })?;
     let counts = Counts {
         steps: 0,
         taken: 1,
         idle: 2,
     };
-    assert!(rt; drawing.counts() == counts);
+    assert!(rt; counts_of_nothing(rt.alloc(), &verified, &world)? == counts);
     Ok(())
+}
+
+/// What a drawing counts of three events of places and frames that a world hasn't.
+fn counts_of_nothing(
+    alloc: Global,
+    verified: &Verified,
+    world: &World,
+) -> Result<Counts, AllocError> {
+    let mut drawing = Drawing::new(alloc, verified, world, 0)?;
+    drawing.note(world, Event::Step(99, usize::MAX), &Done::Idle)?;
+    drawing.note(world, Event::Deliver(99), &Done::Idle)?;
+    drawing.note(world, Event::Deliver(99), &Done::Taken { to: 99 })?;
+    Ok(drawing.counts())
 }

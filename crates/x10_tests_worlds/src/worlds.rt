@@ -138,24 +138,34 @@ fn has_printed(world: &World) -> bool {
     matches!(world.output(0), Some([Line::Int(7)]))
 }
 
+/// What a test does with a world of `SEVEN` at two places. (A check grows with the values that are dropped times the ways to
+/// return: so a program and its world are held here, and a test has neither.)
+fn in_world<F: FnOnce(&mut World) -> Result<(), Fail>>(alloc: Global, test: F) -> Result<(), Fail>
+    requires { F.IsAlwaysCallable test }
+{
+    let verified = program(alloc, &SEVEN)?;
+    let mut world = world_of(alloc, &verified, 2)?;
+    test(&mut world)
+}
+
 #[test]
 fn at_a_stretch(rt: HostRuntime) -> Result<(), Fail> {
-    let verified = program(rt.alloc(), &SEVEN)?;
-    let mut world = world_of(rt.alloc(), &verified, 2)?;
-    let key = first_key(&world, 0).ok_or("main is there")?;
-    for (place, key, steps, made) in [
-        (1, key, 5, 0),
-        (2, key, 5, 0),
-        (0, 99, 5, 0),
-        (0, key, 2, 2),
-    ] {
-        assert!(rt; ran(&mut world, place, key, steps) == Some(made));
-    }
-    assert!(rt; !is_closed(&world));
-    for made in [1, 0] {
-        assert!(rt; ran(&mut world, 0, key, 5) == Some(made) && has_ended(&world));
-    }
-    Ok(())
+    in_world(rt.alloc(), |world| {
+        let key = first_key(world, 0).ok_or("main is there")?;
+        for (place, key, steps, made) in [
+            (1, key, 5, 0),
+            (2, key, 5, 0),
+            (0, 99, 5, 0),
+            (0, key, 2, 2),
+        ] {
+            assert!(rt; ran(world, place, key, steps) == Some(made));
+        }
+        assert!(rt; !is_closed(world));
+        for made in [1, 0] {
+            assert!(rt; ran(world, 0, key, 5) == Some(made) && has_ended(world));
+        }
+        Ok(())
+    })
 }
 
 /// Why a world makes no more events in rounds, of at most `limit`.
@@ -165,15 +175,15 @@ fn halt(alloc: Global, world: &mut World, limit: u64) -> Option<Unfinished> {
 
 #[test]
 fn in_rounds(rt: HostRuntime) -> Result<(), Fail> {
-    let verified = program(rt.alloc(), &SEVEN)?;
-    let mut world = world_of(rt.alloc(), &verified, 2)?;
-    assert!(rt; count(&world) == 2);
-    for limit in [0, 2] {
-        assert!(rt; halt(rt.alloc(), &mut world, limit) == Some(Unfinished::Limit));
-    }
-    assert!(rt; !is_closed(&world));
-    assert!(rt; halt(rt.alloc(), &mut world, 2).is_none() && has_ended(&world));
-    Ok(())
+    in_world(rt.alloc(), |world| {
+        assert!(rt; count(world) == 2);
+        for limit in [0, 2] {
+            assert!(rt; halt(rt.alloc(), world, limit) == Some(Unfinished::Limit));
+        }
+        assert!(rt; !is_closed(world));
+        assert!(rt; halt(rt.alloc(), world, 2).is_none() && has_ended(world));
+        Ok(())
+    })
 }
 
 /// Why a world doesn't make some events.
@@ -188,22 +198,22 @@ fn is_alone(world: &World) -> bool {
 
 #[test]
 fn a_world(rt: HostRuntime) -> Result<(), Fail> {
-    let verified = program(rt.alloc(), &SEVEN)?;
-    let mut world = world_of(rt.alloc(), &verified, 2)?;
-    let key = first_key(&world, 0).ok_or("main is there")?;
-    assert!(rt; first_key(&world, 1).is_none() && first_key(&world, 2).is_none());
-    assert!(rt; lines_of(&world, 2).is_none() && !is_closed(&world));
-    let events = [
-        Event::Step(1, 0),
-        Event::Deliver(0),
-        Event::Step(2, 0),
-        Event::Step(0, key),
-    ];
-    assert!(rt; stop(&mut world, &events).is_none());
-    assert!(rt; stop(&mut world, &[Event::Step(0, key); 2]).is_none());
-    assert!(rt; has_ended(&world) && is_alone(&world));
-    assert!(rt; first_key(&world, 0).is_none());
-    Ok(())
+    in_world(rt.alloc(), |world| {
+        let key = first_key(world, 0).ok_or("main is there")?;
+        assert!(rt; first_key(world, 1).is_none() && first_key(world, 2).is_none());
+        assert!(rt; lines_of(world, 2).is_none() && !is_closed(world));
+        let events = [
+            Event::Step(1, 0),
+            Event::Deliver(0),
+            Event::Step(2, 0),
+            Event::Step(0, key),
+        ];
+        assert!(rt; stop(world, &events).is_none());
+        assert!(rt; stop(world, &[Event::Step(0, key); 2]).is_none());
+        assert!(rt; has_ended(world) && is_alone(world));
+        assert!(rt; first_key(world, 0).is_none());
+        Ok(())
+    })
 }
 
 /// Whether a world takes no later call, and is as it was at the beginning.
