@@ -65,8 +65,7 @@ impl Book {
         ensures ok { OnOk result (IsOpened finish places self.new) }
         ensures err { IfErr result (λ why. (why ≡ stop.Memory) × (self.new ≡ self.old)) }
     {
-        self.pairs
-            .zero(usize::from(places) * usize::from(places))?;
+        self.pairs.zero(usize::from(places) * usize::from(places))?;
         self.finish = finish;
         self.places = places;
         self.unequal = 0;

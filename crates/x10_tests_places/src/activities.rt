@@ -253,5 +253,11 @@ fn goes(alloc: Global, rt: &impl Abort, place: &mut Place) -> Result<(), Fail> {
 
 #[test]
 fn ten_thousand_events(rt: HostRuntime) -> Result<(), Fail> {
-    at_place_of(rt.alloc(), BRANCHES, 0, 1, |place| goes(rt.alloc(), &rt, place))
+    at_place_of(
+        rt.alloc(),
+        BRANCHES,
+        0,
+        1,
+        |place| goes(rt.alloc(), &rt, place),
+    )
 }

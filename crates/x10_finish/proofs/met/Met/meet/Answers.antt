@@ -15,7 +15,7 @@ pub returns-in-Some-clause-ok : goal.returns-in-Some-clause-ok
 returns-in-Some-clause-ok c =
     let unmet : c.self.inside.is_met ≡ false = search rules in
     let others : c.self.inside.others ≡ c.args.self.now =
-        ap (λ b. listed (if_met b c.self.inside.latest) c.self.inside.others) (sym unmet) ∙ c.self.view_is in
+    ap (λ b. listed (if_met b c.self.inside.latest) c.self.inside.others) (sym unmet) ∙ c.self.view_is in
     let none : counted c.clear.new.count ≡ nothing = search rules in
     let whole : IsWhole c.args.places c.clear.new.count = search rules in
     record {
