@@ -275,13 +275,15 @@ impl CallFrame {
         let mut pc = self.pc;
         let registers = self.registers.as_mut_slice();
         let loops = &mut self.loops;
-        for done in 0..most {
+        let mut left = most;
+        while left > 0 {
             let instr = verified.fetch_from(code, function, usize::from(pc));
             let Route::Local(local) = classify(instr.op) else {
                 self.pc = pc;
-                return (done, Some(instr));
+                return (most - left, Some(instr));
             };
             pc = act(registers, loops, heap, verified, local, pc, instr);
+            left -= 1;
         }
         self.pc = pc;
         (most, None)

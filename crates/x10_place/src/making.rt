@@ -23,6 +23,7 @@ fn rail_length(number: i64) -> Option<u16>
 
 impl CallFrame {
     /// A text of the module becomes a text of the heap.
+    #[inline(never)]
     fn make_text(&mut self, verified: &Verified, heap: &mut Heap, instr: Instr) -> Result<(), Stop>
         requires asks { AsksMake make.Text verified.now.program
             (length self.old.registers.items) instr }
@@ -42,6 +43,7 @@ impl CallFrame {
     }
 
     /// Two texts are joined, or none where they would be too long.
+    #[inline(never)]
     fn join_texts(&mut self, verified: &Verified, heap: &mut Heap, instr: Instr) -> Result<(), Stop>
         requires asks { AsksMake make.JoinedText verified.now.program
             (length self.old.registers.items) instr }
@@ -66,6 +68,7 @@ impl CallFrame {
     }
 
     /// An object of a class, with its fields from register b on.
+    #[inline(never)]
     fn make_object(
         &mut self,
         verified: &Verified,
@@ -93,6 +96,7 @@ impl CallFrame {
     }
 
     /// A rail of zeros, or none where it can't be that long.
+    #[inline(never)]
     fn make_rail(&mut self, verified: &Verified, heap: &mut Heap, instr: Instr) -> Result<(), Stop>
         requires asks { AsksMake make.Rail verified.now.program
             (length self.old.registers.items) instr }
@@ -115,6 +119,7 @@ impl CallFrame {
     }
 
     /// One operation that makes something in the heap. Where it is refused, nothing has changed.
+    #[inline(always)]
     pub(crate) fn make(
         &mut self,
         verified: &Verified,

@@ -32,20 +32,19 @@ impl Stay {
         ensures less { result.1 ≢ Ok outcome.Goes → result.0 < most }
     {
         verified.certificate();
-        let mut done = 0;
+        // one number for both loops: how many steps are left
+        let mut left = most;
         loop {
-            let (count, next) = self
-                .top
-                .run_instructions(&mut store.heap, verified, most - done);
-            done += count;
+            let (count, next) = self.top.run_instructions(&mut store.heap, verified, left);
+            left -= count;
             let Some(instr) = next else {
-                return (done, Ok(Outcome::Goes));
+                return (most - left, Ok(Outcome::Goes));
             };
             let made = self.step(alloc, verified, locality, store, instr);
             if made != Ok(Outcome::Goes) {
-                return (done, made);
+                return (most - left, made);
             }
-            done += 1;
+            left -= 1;
         }
     }
 }

@@ -1,4 +1,4 @@
-use Rattle.std.proofs.Common.{◌≡◌, List, ℕ, length, sym, subst, refl, ◌∙◌, rules}
+use Rattle.std.proofs.Common.{◌≡◌, ◌+◌, ◌-◌, ◌<◌, ◌≤◌, arith, List, ℕ, length, sym, subst, refl, ◌∙◌, rules}
 use Rattle.x10_place.specs.Frames.{workspace, space_of, with_space, IsWithin, IsFetched}
 use Rattle.x10_place.specs.WorkingStays.{IsTypedFrame}
 use Rattle.x10_place.specs.Stretches.{Locally, none, more}
@@ -8,15 +8,26 @@ use Rattle.x10_place.proofs.GoingOn.{frame_typed}
 use Rattle.x10_place.proofs.HeapReads.{frame_reads}
 use Rattle.x10_place.proofs.call_frame.CallFrame.run_instructions.Goals as goal
 
-pub loop-done-init : goal.loop-done-init
-loop-done-init c = (
+-- ---- how many were made, by how many are left
+
+none_made : (most : ℕ) → 0 ≡ most - most
+none_made most = omega arith
+
+one_more : (most left : ℕ) → left ≤ most → 0 < left → most - left + 1 ≡ most - (left - 1)
+one_more most left l some = omega (arith, l, some)
+
+pub loop-left-init : goal.loop-left-init
+loop-left-init c = (
   subst (λ (ws : List ℕ). IsWithin c.args.verified.now.program c.args.self.now.function c.args.self.now.pc (length ws))
       (sym c.as_mut_slice-registers.ensures.value) c.requires.inside,
   subst (λ (ws : List ℕ). IsTypedFrame c.args.verified.now.program c.args.heap.now
       (with_space c.args.self.now (workspace c.args.self.now.pc ws c.args.self.now.loops c.args.heap.now)))
       (sym c.as_mut_slice-registers.ensures.value) c.requires.typed,
-  subst (λ (ws : List ℕ). Locally c.args.verified.now.program c.args.self.now.function (space_of c.args.self.now c.args.heap.now) 0
-      (workspace c.args.self.now.pc ws c.args.self.now.loops c.args.heap.now)) (sym c.as_mut_slice-registers.ensures.value) none,
+  subst (λ n. Locally c.args.verified.now.program c.args.self.now.function (space_of c.args.self.now c.args.heap.now) n
+      (workspace c.args.self.now.pc c.as_mut_slice-registers.result.now c.args.self.now.loops c.args.heap.now)) (none_made c.args.most)
+      (subst (λ (ws : List ℕ). Locally c.args.verified.now.program c.args.self.now.function (space_of c.args.self.now c.args.heap.now) 0
+      (workspace c.args.self.now.pc ws c.args.self.now.loops c.args.heap.now)) (sym c.as_mut_slice-registers.ensures.value) none),
+  omega arith,
 )
 
 pub fetch_from-instr-requires-clause-function : goal.fetch_from-instr-requires-clause-function
@@ -25,11 +36,11 @@ fetch_from-instr-requires-clause-function c = function_within c.args.verified.no
 
 pub act-pc-requires-clause-asks : goal.act-pc-requires-clause-asks
 act-pc-requires-clause-asks c =
-    let fetched : IsFetched c.args.verified.now.program c.args.self.now.function c.loop-done.pc
-    (length c.loop-done.registers) c.fetch_from-instr.result =
-    fetched_within c.args.verified.now.program c.args.self.now.function c.loop-done.pc
-    (length c.loop-done.registers) c.from-function.result c.from.result c.fetch_from-instr.result c.certificate.ensures.fits
-    c.loop-done.invariant.0
+    let fetched : IsFetched c.args.verified.now.program c.args.self.now.function c.loop-left.pc
+    (length c.loop-left.registers) c.fetch_from-instr.result =
+    fetched_within c.args.verified.now.program c.args.self.now.function c.loop-left.pc
+    (length c.loop-left.registers) c.from-function.result c.from.result c.fetch_from-instr.result c.certificate.ensures.fits
+    c.loop-left.invariant.0
     (record {
       function_is = c.from-function.ensures;
       pc_is = c.from.ensures;
@@ -37,16 +48,16 @@ act-pc-requires-clause-asks c =
       in_range = c.fetch_from-instr.ensures.in_range;
       follows = c.fetch_from-instr.ensures.follows;
     }) in
-    local_asks c.args.verified.now.program c.args.self.now.function c.loop-done.pc
-    (length c.loop-done.registers) c.fetch_from-instr.result fetched c.in-Local.local (sym c.classify.ensures ∙ c.in-Local.is)
+    local_asks c.args.verified.now.program c.args.self.now.function c.loop-left.pc
+    (length c.loop-left.registers) c.fetch_from-instr.result fetched c.in-Local.local (sym c.classify.ensures ∙ c.in-Local.is)
 
 pub act-pc-requires-clause-reads : goal.act-pc-requires-clause-reads
 act-pc-requires-clause-reads c =
-    let fetched : IsFetched c.args.verified.now.program c.args.self.now.function c.loop-done.pc
-    (length c.loop-done.registers) c.fetch_from-instr.result =
-    fetched_within c.args.verified.now.program c.args.self.now.function c.loop-done.pc
-    (length c.loop-done.registers) c.from-function.result c.from.result c.fetch_from-instr.result c.certificate.ensures.fits
-    c.loop-done.invariant.0
+    let fetched : IsFetched c.args.verified.now.program c.args.self.now.function c.loop-left.pc
+    (length c.loop-left.registers) c.fetch_from-instr.result =
+    fetched_within c.args.verified.now.program c.args.self.now.function c.loop-left.pc
+    (length c.loop-left.registers) c.from-function.result c.from.result c.fetch_from-instr.result c.certificate.ensures.fits
+    c.loop-left.invariant.0
     (record {
       function_is = c.from-function.ensures;
       pc_is = c.from.ensures;
@@ -54,17 +65,17 @@ act-pc-requires-clause-reads c =
       in_range = c.fetch_from-instr.ensures.in_range;
       follows = c.fetch_from-instr.ensures.follows;
     }) in
-    frame_reads c.args.verified.now.program c.loop-done.heap (with_space c.args.self.now
-    (workspace c.loop-done.pc c.loop-done.registers c.loop-done.loops c.loop-done.heap)) c.loop-done.invariant.1 c.fetch_from-instr.result fetched
+    frame_reads c.args.verified.now.program c.loop-left.heap (with_space c.args.self.now
+    (workspace c.loop-left.pc c.loop-left.registers c.loop-left.loops c.loop-left.heap)) c.loop-left.invariant.1 c.fetch_from-instr.result fetched
     c.in-Local.local (sym c.classify.ensures ∙ c.in-Local.is)
 
 pub act-pc-requires-clause-next : goal.act-pc-requires-clause-next
 act-pc-requires-clause-next c =
-    let fetched : IsFetched c.args.verified.now.program c.args.self.now.function c.loop-done.pc
-    (length c.loop-done.registers) c.fetch_from-instr.result =
-    fetched_within c.args.verified.now.program c.args.self.now.function c.loop-done.pc
-    (length c.loop-done.registers) c.from-function.result c.from.result c.fetch_from-instr.result c.certificate.ensures.fits
-    c.loop-done.invariant.0
+    let fetched : IsFetched c.args.verified.now.program c.args.self.now.function c.loop-left.pc
+    (length c.loop-left.registers) c.fetch_from-instr.result =
+    fetched_within c.args.verified.now.program c.args.self.now.function c.loop-left.pc
+    (length c.loop-left.registers) c.from-function.result c.from.result c.fetch_from-instr.result c.certificate.ensures.fits
+    c.loop-left.invariant.0
     (record {
       function_is = c.from-function.ensures;
       pc_is = c.from.ensures;
@@ -72,17 +83,17 @@ act-pc-requires-clause-next c =
       in_range = c.fetch_from-instr.ensures.in_range;
       follows = c.fetch_from-instr.ensures.follows;
     }) in
-    next_small c.args.verified.now.program c.args.self.now.function c.loop-done.pc (length c.loop-done.registers) c.fetch_from-instr.result fetched
-    (local_next c.args.verified.now.program c.args.self.now.function c.loop-done.pc
-    (length c.loop-done.registers) c.fetch_from-instr.result fetched c.in-Local.local (sym c.classify.ensures ∙ c.in-Local.is))
+    next_small c.args.verified.now.program c.args.self.now.function c.loop-left.pc (length c.loop-left.registers) c.fetch_from-instr.result fetched
+    (local_next c.args.verified.now.program c.args.self.now.function c.loop-left.pc
+    (length c.loop-left.registers) c.fetch_from-instr.result fetched c.in-Local.local (sym c.classify.ensures ∙ c.in-Local.is))
 
-pub loop-done-preserved : goal.loop-done-preserved
-loop-done-preserved c =
-    let fetched : IsFetched c.args.verified.now.program c.args.self.now.function c.loop-done.pc
-    (length c.loop-done.registers) c.fetch_from-instr.result =
-    fetched_within c.args.verified.now.program c.args.self.now.function c.loop-done.pc
-    (length c.loop-done.registers) c.from-function.result c.from.result c.fetch_from-instr.result c.certificate.ensures.fits
-    c.loop-done.invariant.0
+pub loop-left-preserved : goal.loop-left-preserved
+loop-left-preserved c =
+    let fetched : IsFetched c.args.verified.now.program c.args.self.now.function c.loop-left.pc
+    (length c.loop-left.registers) c.fetch_from-instr.result =
+    fetched_within c.args.verified.now.program c.args.self.now.function c.loop-left.pc
+    (length c.loop-left.registers) c.from-function.result c.from.result c.fetch_from-instr.result c.certificate.ensures.fits
+    c.loop-left.invariant.0
     (record {
       function_is = c.from-function.ensures;
       pc_is = c.from.ensures;
@@ -91,24 +102,27 @@ loop-done-preserved c =
       follows = c.fetch_from-instr.ensures.follows;
     }) in
     let route_is = sym c.classify.ensures ∙ c.in-Local.is in
-    let before = workspace c.loop-done.pc c.loop-done.registers c.loop-done.loops c.loop-done.heap in
+    let before = workspace c.loop-left.pc c.loop-left.registers c.loop-left.loops c.loop-left.heap in
     let after = workspace c.act-pc.result c.act-pc.new.registers c.act-pc.new.loops c.act-pc.new.heap in (
       local_within c.args.verified.now.program c.args.self.now.function before c.fetch_from-instr.result fetched c.in-Local.local after route_is
           c.act-pc.ensures,
       frame_typed c.args.verified.now.program (with_space c.args.self.now before)
-          (with_space c.args.self.now after) c.loop-done.heap c.act-pc.new.heap c.fetch_from-instr.result c.in-Local.local c.loop-done.invariant.1
+          (with_space c.args.self.now after) c.loop-left.heap c.act-pc.new.heap c.fetch_from-instr.result c.in-Local.local c.loop-left.invariant.1
           fetched route_is refl c.act-pc.ensures,
-      more c.loop-done.done before after c.loop-done.invariant.2
-          (record { instr = c.fetch_from-instr.result; fetched = fetched; local = c.in-Local.local; route_is = route_is; acts = c.act-pc.ensures }),
+      subst (λ n. Locally c.args.verified.now.program c.args.self.now.function (space_of c.args.self.now c.args.heap.now) n after)
+          (one_more c.args.most c.loop-left.left c.loop-left.invariant.3 (let some : 0 < c.loop-left.left = search rules in some))
+          (more (c.args.most - c.loop-left.left) before after c.loop-left.invariant.2
+          (record { instr = c.fetch_from-instr.result; fetched = fetched; local = c.in-Local.local; route_is = route_is; acts = c.act-pc.ensures })),
+      omega (arith, c.loop-left.invariant.3),
     )
 
 pub returns-in_default-clause-next : goal.returns-in_default-clause-next
 returns-in_default-clause-next c =
-    let fetched : IsFetched c.args.verified.now.program c.args.self.now.function c.loop-done.pc
-    (length c.loop-done.registers) c.fetch_from-instr.result =
-    fetched_within c.args.verified.now.program c.args.self.now.function c.loop-done.pc
-    (length c.loop-done.registers) c.from-function.result c.from.result c.fetch_from-instr.result c.certificate.ensures.fits
-    c.loop-done.invariant.0
+    let fetched : IsFetched c.args.verified.now.program c.args.self.now.function c.loop-left.pc
+    (length c.loop-left.registers) c.fetch_from-instr.result =
+    fetched_within c.args.verified.now.program c.args.self.now.function c.loop-left.pc
+    (length c.loop-left.registers) c.from-function.result c.from.result c.fetch_from-instr.result c.certificate.ensures.fits
+    c.loop-left.invariant.0
     (record {
       function_is = c.from-function.ensures;
       pc_is = c.from.ensures;
@@ -116,6 +130,6 @@ returns-in_default-clause-next c =
       in_range = c.fetch_from-instr.ensures.in_range;
       follows = c.fetch_from-instr.ensures.follows;
     }) in
-    let same : length c.loop-done.registers ≡ length c.args.self.now.registers.items = search rules in
-    subst (λ (ws : List ℕ). IsFetched c.args.verified.now.program c.args.self.now.function c.loop-done.pc (length ws) c.fetch_from-instr.result)
-    (sym (refilled c.args.self.now.registers.items c.loop-done.registers same)) fetched
+    let same : length c.loop-left.registers ≡ length c.args.self.now.registers.items = search rules in
+    subst (λ (ws : List ℕ). IsFetched c.args.verified.now.program c.args.self.now.function c.loop-left.pc (length ws) c.fetch_from-instr.result)
+    (sym (refilled c.args.self.now.registers.items c.loop-left.registers same)) fetched
