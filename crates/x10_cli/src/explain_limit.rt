@@ -12,7 +12,7 @@ use x10_stats::{Counts, count_run};
 use x10_survey::survey;
 use x10_task::Task;
 use x10_verify::Verified;
-use x10_world::World;
+use x10_world::{Unfinished, World};
 
 /// The most events of a run that is made once more event by event, so that its idle ones are counted.
 const MOST_COUNTED: u64 = 10_000_000;
@@ -116,7 +116,8 @@ fn share_of(
     let mut counts = Counts::new(alloc, verified, world)?;
     match count_run(alloc, world, schedule_of(task), most, &mut counts) {
         Err(halt) if Fault::from(halt) == fault => {}
-        _ => return Ok(None),
+        Err(Unfinished::Limit) if most < task.limit => return Ok(None),
+        _ => return Err(AllocError),
     }
     let stats = counts.stats();
     let moved = stats.steps.saturating_add(stats.deliveries);
