@@ -1,5 +1,5 @@
 -- The counts of the finishes that were met: one is found, written, entered or goes.
-use Rattle.std.proofs.Common.{◌≡◌, ◌-◌, ◌<◌, ◌==◌, ◌&&◌, ◌+◌, ◌^◌, ◌⊎◌, inl, inr, max, ℕ, Bool, true, false, cond, List, ◌∷◌, length, Option, Some, None, Result, Err, OnOk, IfErr, MatchOption, refl, sym, ◌∙◌, ap, subst, arith}
+use Rattle.std.proofs.Common.{◌≡◌, ◌-◌, ◌<◌, ◌==◌, ◌&&◌, ◌+◌, ◌^◌, inl, inr, max, ℕ, Bool, true, false, cond, List, ◌∷◌, length, Option, Some, None, Result, Err, OnOk, IfErr, MatchOption, refl, sym, ◌∙◌, ap, subst, arith}
 use Rattle.std.proofs.lemmas.Bool.{ne_eqb}
 use Rattle.x10_kinds.specs.declared.limit.Limit.TheVariants as limits
 use Rattle.x10_kinds.specs.declared.stop.Stop.{Stop}

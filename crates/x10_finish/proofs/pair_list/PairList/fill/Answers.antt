@@ -1,4 +1,4 @@
-use Rattle.std.proofs.Common.{◌≡◌, ℕ, Bool, true, if◌then◌else◌, List, map, replicate, ◌∙◌, ap, rules}
+use Rattle.std.proofs.Common.{◌≡◌, map, replicate, ◌∙◌, ap, rules}
 use Rattle.std.specs.Vec.{vec_len}
 use Rattle.x10_finish.specs.declared.pair_list.Stamped.{Stamped}
 use Rattle.x10_finish.specs.Pairs.{no_pair, seen_in}

@@ -1,4 +1,3 @@
-use Rattle.std.proofs.Common.{◌≡◌, rules}
 use Rattle.x10_finish.proofs.Ledgers.{if_err}
 use Rattle.x10_finish.proofs.MetLemmas.{first_not_full}
 use Rattle.x10_finish.proofs.tally.Tally.count.Goals as goal
