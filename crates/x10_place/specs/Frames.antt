@@ -176,6 +176,11 @@ abbrev pub Takes : Workspace → Instr → Option ℤ → Workspace → Type 0
 Takes w i (Some z) v = Writes w i z v
 Takes w i None v = Becomes v i.x w.words w.loops w.heap
 
+-- the number of the next instruction, from that of one and where that jumps to
+abbrev pub landing : ℕ → Option ℕ → ℕ
+landing pc None = pc + 1
+landing pc (Some target) = target
+
 -- how often the loop of a slot still turns after this turn
 abbrev pub turns_left : List ℕ → ℕ → ℕ
 turns_left loops slot = slice_index loops slot - 1

@@ -1,11 +1,11 @@
 //! Call frames: a function that is being executed, and what an instruction does to it.
-ghost use Rattle.std.specs.Prelude.{◌≡◌, ◌≢◌, ◌+◌, ◌<◌, ◌≤◌, ◌^◌, ℕ, OnErr, IfOk, IfNone, IfSome, Some, [], length, replicate, slice_index, slice_set, if◌then◌else◌};
+ghost use Rattle.std.specs.Prelude.{◌≡◌, ◌≢◌, ◌+◌, ◌<◌, ◌≤◌, ◌^◌, ℕ, OnErr, IfOk, IfNone, IfSome, None, Some, [], length, replicate, slice_index, slice_set, if◌then◌else◌};
 ghost use Rattle.std.specs.Int.{w64, cast_signed};
 ghost use Rattle.x10_code.specs.declared.op.Op.TheVariants as op;
 ghost use Rattle.x10_model.specs.Results as machine;
 ghost use Rattle.x10_model.specs.Values.{Int};
 ghost use Rattle.x10_place.specs.declared.route.Local.TheVariants as local;
-ghost use Rattle.x10_place.specs.Frames.{IsInside, IsFetchedFor, int_at, workspace, space_of, with_space, as_value, given, tried, Acts, AsksNumber, Asks, ReadsNumber, ReadsPartial, Reads, PassesArguments, IsEntered, IsEnteredWith};
+ghost use Rattle.x10_place.specs.Frames.{IsInside, IsFetchedFor, int_at, workspace, space_of, with_space, as_value, given, landing, tried, Acts, AsksNumber, Asks, ReadsNumber, ReadsPartial, Reads, PassesArguments, IsEntered, IsEnteredWith};
 ghost use Rattle.x10_place.specs.Routes.{route_of};
 ghost use Rattle.x10_place.specs.WorkingStays.{IsTypedFrame};
 ghost use Rattle.x10_place.specs.Stays.{IsCalling, GoesNext, GoesNextWith, GoesBack};
@@ -116,29 +116,40 @@ fn attempt(registers: &[u64], heap: &Heap, partial: Partial, instr: Instr) -> Op
     }
 }
 
-/// Writes a word to a register: the number of the instruction after the one at `pc`.
+/// Writes a word to a register, and goes on: nothing is jumped to.
 #[inline(always)]
-fn write(word: u64, registers: &mut [u64], register: u8, pc: u16) -> u16
-    requires there { register < length registers.old }
-    requires next { pc + 1 < 2 ^ 16 }
-    ensures next { result ≡ pc + 1 }
+fn write(word: u64, registers: &mut [u64], register: u8) -> Option<u16>
+    requires { register < length registers.old }
+    ensures next { result ≡ None }
     ensures written { registers.new ≡ slice_set registers.old register word }
 {
     registers[usize::from(register)] = word;
-    pc + 1
+    None
 }
 
-/// The number of the instruction after the one at `pc` where something holds, else x.
+/// Where an instruction jumps to: nowhere where something holds, else to x.
 #[inline(always)]
-fn next_if(holds: bool, pc: u16, instr: Instr) -> u16
-    requires next { pc + 1 < 2 ^ 16 }
-    requires x { instr.x < 2 ^ 16 }
-    ensures { result ≡ (if holds then pc + 1 else instr.x) }
+fn jump_unless(holds: bool, instr: Instr) -> Option<u16>
+    requires { instr.x < 2 ^ 16 }
+    ensures { result ≡ (if holds then None else Some instr.x) }
 {
-    if holds { pc + 1 } else { instr.x as u16 }
+    if holds { None } else { Some(instr.x as u16) }
 }
 
-/// An operation of one call frame, which stands at an instruction: the number of the next one.
+/// The number of the next instruction, from that of one and where that jumps to.
+#[inline(always)]
+fn landing(pc: u16, jump: Option<u16>) -> u16
+    requires { pc + 1 < 2 ^ 16 }
+    ensures { result ≡ landing pc jump }
+{
+    match jump {
+        Some(target) => target,
+        None => pc + 1,
+    }
+}
+
+/// An operation of one call frame: where it jumps to, if it does. What goes on and what jumps meet in `landing` alone, so that
+/// whether a loop turns again is a jump, which a processor foresees, and not a number that the next instruction waits for.
 #[inline(always)]
 fn act(
     registers: &mut [u64],
@@ -146,53 +157,56 @@ fn act(
     heap: &mut Heap,
     verified: &Verified,
     local: Local,
-    pc: u16,
     instr: Instr,
-) -> u16
+) -> Option<u16>
     requires asks { Asks local verified.now.program (length registers.old) instr }
     requires reads { Reads local heap.old registers.old instr }
-    requires next { pc + 1 < 2 ^ 16 }
-    ensures { Acts local verified.now.program (workspace pc registers.old loops.old heap.old)
-        instr (workspace result registers.new loops.new heap.new) }
+    ensures { (pc : ℕ) → Acts local verified.now.program
+        (workspace pc registers.old loops.old heap.old) instr
+        (workspace (landing pc result) registers.new loops.new heap.new) }
 {
     let (a, b) = (usize::from(instr.a), usize::from(instr.b));
     match local {
         Local::Number(function) => {
             let number = number(registers, heap, verified, function, instr);
-            write(number.cast_unsigned(), registers, instr.a, pc)
+            write(number.cast_unsigned(), registers, instr.a)
         }
         Local::Partial(partial) => match attempt(registers, heap, partial, instr) {
-            Some(number) => write(number.cast_unsigned(), registers, instr.a, pc),
-            None => instr.x as u16,
+            Some(number) => write(number.cast_unsigned(), registers, instr.a),
+            None => Some(instr.x as u16),
         },
-        Local::Copy => write(registers[b], registers, instr.a, pc),
-        Local::Null => write(0, registers, instr.a, pc),
+        Local::Copy => write(registers[b], registers, instr.a),
+        Local::Null => write(0, registers, instr.a),
         Local::NotNull => match registers[b] {
-            0 => instr.x as u16,
-            word => write(word, registers, instr.a, pc),
+            0 => Some(instr.x as u16),
+            word => write(word, registers, instr.a),
         },
-        Local::GetField => write(field(heap, registers[b], instr.c), registers, instr.a, pc),
+        Local::GetField => write(field(heap, registers[b], instr.c), registers, instr.a),
         Local::SetField => {
             set_field(heap, registers[a], instr.c, registers[b]);
-            pc + 1
+            None
         }
         Local::SetByte => {
             let (index, number) = (int(registers, instr.b), int(registers, instr.c));
-            next_if(set_rail_byte(heap, registers[a], index, number), pc, instr)
+            jump_unless(set_rail_byte(heap, registers[a], index, number), instr)
         }
-        Local::Place => write(u64::from(instr.x), registers, instr.a, pc),
-        Local::Home => write(u64::from(home_in(registers[b])), registers, instr.a, pc),
-        Local::Open => write(object_of(heap, registers[b]), registers, instr.a, pc),
-        Local::SamePlace => next_if(home_in(registers[a]) == home_in(registers[b]), pc, instr),
-        Local::Jump => instr.x as u16,
-        Local::JumpIfZero => next_if(int(registers, instr.a) != 0, pc, instr),
+        Local::Place => write(u64::from(instr.x), registers, instr.a),
+        Local::Home => write(u64::from(home_in(registers[b])), registers, instr.a),
+        Local::Open => write(object_of(heap, registers[b]), registers, instr.a),
+        Local::SamePlace => jump_unless(home_in(registers[a]) == home_in(registers[b]), instr),
+        Local::Jump => Some(instr.x as u16),
+        Local::JumpIfZero => jump_unless(int(registers, instr.a) != 0, instr),
         Local::Loop => {
             loops[a] = instr.x;
-            pc + 1
+            None
         }
         Local::EndLoop => {
             loops[a] = loops[a].saturating_sub(1);
-            if 0 < loops[a] { instr.x as u16 } else { pc + 1 }
+            if 0 < loops[a] {
+                Some(instr.x as u16)
+            } else {
+                None
+            }
         }
     }
 }
@@ -237,16 +251,9 @@ impl CallFrame {
             (space_of self.new heap.new) }
         ensures function { self.new.function ≡ self.old.function }
     {
-        let pc = self.pc;
-        self.pc = act(
-            self.registers.as_mut_slice(),
-            &mut self.loops,
-            heap,
-            verified,
-            local,
-            pc,
-            instr,
-        );
+        let registers = self.registers.as_mut_slice();
+        let jump = act(registers, &mut self.loops, heap, verified, local, instr);
+        self.pc = landing(self.pc, jump);
     }
 
     /// Operations of this call frame alone, one after another: as many as come before one that isn't, and at most `most`.
@@ -282,7 +289,8 @@ impl CallFrame {
                 self.pc = pc;
                 return (most - left, Some(instr));
             };
-            pc = act(registers, loops, heap, verified, local, pc, instr);
+            let jump = act(registers, loops, heap, verified, local, instr);
+            pc = landing(pc, jump);
             left -= 1;
         }
         self.pc = pc;

@@ -1,5 +1,5 @@
 use Rattle.std.proofs.Common.{◌≡◌, ◌+◌, ◌-◌, ◌<◌, ◌≤◌, arith, List, ℕ, length, sym, subst, refl, ◌∙◌, rules}
-use Rattle.x10_place.specs.Frames.{workspace, space_of, with_space, IsWithin, IsFetched}
+use Rattle.x10_place.specs.Frames.{Acts, workspace, space_of, with_space, IsWithin, IsFetched}
 use Rattle.x10_place.specs.WorkingStays.{IsTypedFrame}
 use Rattle.x10_place.specs.Stretches.{Locally, none, more}
 use Rattle.x10_place.proofs.CalledFrames.{refilled}
@@ -34,8 +34,8 @@ pub fetch_from-instr-requires-clause-function : goal.fetch_from-instr-requires-c
 fetch_from-instr-requires-clause-function c = function_within c.args.verified.now.program c.args.self.now.function c.args.self.now.pc _
     c.from-function.result c.requires.inside c.from-function.ensures
 
-pub act-pc-requires-clause-asks : goal.act-pc-requires-clause-asks
-act-pc-requires-clause-asks c =
+pub act-jump-requires-clause-asks : goal.act-jump-requires-clause-asks
+act-jump-requires-clause-asks c =
     let fetched : IsFetched c.args.verified.now.program c.args.self.now.function c.loop-left.pc
     (length c.loop-left.registers) c.fetch_from-instr.result =
     fetched_within c.args.verified.now.program c.args.self.now.function c.loop-left.pc
@@ -51,8 +51,8 @@ act-pc-requires-clause-asks c =
     local_asks c.args.verified.now.program c.args.self.now.function c.loop-left.pc
     (length c.loop-left.registers) c.fetch_from-instr.result fetched c.in-Local.local (sym c.classify.ensures ∙ c.in-Local.is)
 
-pub act-pc-requires-clause-reads : goal.act-pc-requires-clause-reads
-act-pc-requires-clause-reads c =
+pub act-jump-requires-clause-reads : goal.act-jump-requires-clause-reads
+act-jump-requires-clause-reads c =
     let fetched : IsFetched c.args.verified.now.program c.args.self.now.function c.loop-left.pc
     (length c.loop-left.registers) c.fetch_from-instr.result =
     fetched_within c.args.verified.now.program c.args.self.now.function c.loop-left.pc
@@ -69,8 +69,8 @@ act-pc-requires-clause-reads c =
     (workspace c.loop-left.pc c.loop-left.registers c.loop-left.loops c.loop-left.heap)) c.loop-left.invariant.1 c.fetch_from-instr.result fetched
     c.in-Local.local (sym c.classify.ensures ∙ c.in-Local.is)
 
-pub act-pc-requires-clause-next : goal.act-pc-requires-clause-next
-act-pc-requires-clause-next c =
+pub landing-pc-requires : goal.landing-pc-requires
+landing-pc-requires c =
     let fetched : IsFetched c.args.verified.now.program c.args.self.now.function c.loop-left.pc
     (length c.loop-left.registers) c.fetch_from-instr.result =
     fetched_within c.args.verified.now.program c.args.self.now.function c.loop-left.pc
@@ -102,17 +102,22 @@ loop-left-preserved c =
       follows = c.fetch_from-instr.ensures.follows;
     }) in
     let route_is = sym c.classify.ensures ∙ c.in-Local.is in
+    let acts : Acts c.in-Local.local c.args.verified.now.program (workspace c.loop-left.pc c.loop-left.registers c.loop-left.loops c.loop-left.heap)
+    c.fetch_from-instr.result (workspace c.landing-pc.result c.act-jump.new.registers c.act-jump.new.loops c.act-jump.new.heap) =
+    subst (λ n. Acts c.in-Local.local c.args.verified.now.program (workspace c.loop-left.pc c.loop-left.registers c.loop-left.loops c.loop-left.heap)
+    c.fetch_from-instr.result (workspace n c.act-jump.new.registers c.act-jump.new.loops c.act-jump.new.heap))
+    (sym c.landing-pc.ensures) (c.act-jump.ensures c.loop-left.pc) in
     let before = workspace c.loop-left.pc c.loop-left.registers c.loop-left.loops c.loop-left.heap in
-    let after = workspace c.act-pc.result c.act-pc.new.registers c.act-pc.new.loops c.act-pc.new.heap in (
+    let after = workspace c.landing-pc.result c.act-jump.new.registers c.act-jump.new.loops c.act-jump.new.heap in (
       local_within c.args.verified.now.program c.args.self.now.function before c.fetch_from-instr.result fetched c.in-Local.local after route_is
-          c.act-pc.ensures,
+          acts,
       frame_typed c.args.verified.now.program (with_space c.args.self.now before)
-          (with_space c.args.self.now after) c.loop-left.heap c.act-pc.new.heap c.fetch_from-instr.result c.in-Local.local c.loop-left.invariant.1
-          fetched route_is refl c.act-pc.ensures,
+          (with_space c.args.self.now after) c.loop-left.heap c.act-jump.new.heap c.fetch_from-instr.result c.in-Local.local c.loop-left.invariant.1
+          fetched route_is refl acts,
       subst (λ n. Locally c.args.verified.now.program c.args.self.now.function (space_of c.args.self.now c.args.heap.now) n after)
           (one_more c.args.most c.loop-left.left c.loop-left.invariant.3 (let some : 0 < c.loop-left.left = search rules in some))
           (more (c.args.most - c.loop-left.left) before after c.loop-left.invariant.2
-          (record { instr = c.fetch_from-instr.result; fetched = fetched; local = c.in-Local.local; route_is = route_is; acts = c.act-pc.ensures })),
+          (record { instr = c.fetch_from-instr.result; fetched = fetched; local = c.in-Local.local; route_is = route_is; acts = acts })),
       omega (arith, c.loop-left.invariant.3),
     )
 
