@@ -42,12 +42,12 @@ class Followed:
             if words[0] == "func":
                 self.code.append([])
             elif words[0] == "entry":
-                self.begin(0, self.activity(int(words[1])))
+                self.begin(0, self.activity(int(words[1]), 0))
             elif self.code:
                 self.code[-1].append(words)
 
-    def activity(self, function):
-        self.begun.append({"function": function, "steps": 0})
+    def activity(self, function, place):
+        self.begun.append({"function": function, "place": place, "steps": 0})
         return self.begun[-1]
 
     def begin(self, place, activity):
@@ -61,7 +61,7 @@ class Followed:
         stay = self.moved = self.stays[place, key]
         stay["activity"]["steps"] += 1
         if name == "ASYNC":
-            self.begin(place, self.activity(int(self.code[function][pc][-1])))
+            self.begin(place, self.activity(int(self.code[function][pc][-1]), place))
         elif name == "CALL":
             stay["calls"] += 1
         elif name == "RET" and stay["calls"]:
@@ -73,7 +73,7 @@ class Followed:
     def deliver(self, number, to):
         frame, activity, _ = self.posted.pop(number)
         if frame[1] == 1:
-            self.begin(to, self.activity(int.from_bytes(frame[12:14], "big")))
+            self.begin(to, self.activity(int.from_bytes(frame[12:14], "big"), to))
         elif frame[1] == 2:
             self.begin(to, activity)
 
@@ -108,6 +108,13 @@ class Followed:
                 head = f"function {function}, activities:"
                 yield f"{head:25} {len(steps)}, most steps: {max(steps)}, bound: {bound}"
 
+    def activity_lines(self, bounds):
+        """What is told of each activity, in the order in which they began."""
+        bound_of = dict(map(str.split, bounds.splitlines()))
+        for number, it in enumerate(self.begun):
+            words = ", ".join(f"{name} {it[name]}" for name in ("function", "place"))
+            yield f"activity {number}, {words}, steps: {it['steps']}, bound: {bound_of[str(it['function'])]}"
+
 @cache
 def module_of(path):
     """A module's listing, and its bounds."""
@@ -118,6 +125,7 @@ def differs(path, words):
     status, trace, fault = told("trace", path, *words)
     right = told("run", path, *words)
     found = told("run", path, *words, "--stats")
+    each = told("run", path, *words, "--stats", "--verbose")
     if (found[0], found[1]) != right[:2] or right[0] != status:
         return f"status {found[0]} with --stats, and {right[0]} without it"
     if found[2][: len(fault)] != fault:
@@ -132,6 +140,10 @@ def differs(path, words):
     functions = [line for line in lines if line.startswith("function")]
     if functions != wanted:
         return f"{functions}, and by the trace {wanted}"
+    last = found[2].index(functions[-1]) + 1
+    wanted = found[2][:last] + list(followed.activity_lines(bounds)) + found[2][last:]
+    if each != (*found[:2], wanted):
+        return f"with --verbose {each}, and by the trace {wanted}"
     numbers = dict(line.split(":") for line in lines if line not in functions)
     if has_rounds and int(numbers["rounds"]) != followed.rounds:
         return f"rounds: {numbers['rounds']}, and by the trace {followed.rounds}"

@@ -55,6 +55,8 @@ done
 told "'--threads' cannot be used with '--seed <N>'" run seven.x10 --threads --seed 1
 told "'--threads' cannot be used with '--schedule <ORDER>'" run seven.x10 --threads --schedule random
 told "'--json' cannot be used with '--verbose'" list seven.x10 --json --verbose
+told "--stats" run seven.x10 --verbose
+told "--verbose is for a run with --stats alone" run seven.x10 --verbose --threads
 
 does 0 "$(x10p --version)" "" x10p -V
 x10p --version | grep -qx 'x10p [0-9]*\.[0-9]*\.[0-9]*' || fail "the version is $(x10p --version)"

@@ -2,7 +2,7 @@
 ; each unit of its argument up to 4: the activity here makes 12, and the one at place 1 makes 14. Main makes 13, which is its
 ; bound: 8 of its own, 3 at place 1, and 2 back at place 0, where it goes from there.
 ;
-; $ x10p run activities.x10 --stats
+; $ x10p run activities.x10 --stats --verbose
 ; 0: 3
 ; > steps:                    39
 ; > idle events:              4
@@ -19,6 +19,9 @@
 ; > Report bytes:             28
 ; > function 0, activities:   2, most steps: 14, bound: 15
 ; > function 3, activities:   1, most steps: 13, bound: 13
+; > activity 0, function 3, place 0, steps: 13, bound: 13
+; > activity 1, function 0, place 0, steps: 12, bound: 15
+; > activity 2, function 0, place 1, steps: 14, bound: 15
 ; > place 0, objects:         0
 ; > place 0, rails:           0
 ; > place 0, texts:           0
@@ -28,9 +31,10 @@
 ; > place 1, texts:           0
 ; > place 1, exports:         0
 ;
-; At the limit main is at place 0 again, in its third stay, for which the other two wait: its steps go along.
+; At the limit main is at place 0 again, in its third stay, for which the other two wait: its steps go along. Those of the other
+; two are told too, until then.
 ;
-; $ x10p run activities.x10 --stats --limit 25
+; $ x10p run activities.x10 --stats --verbose --limit 25
 ; status 2: limit
 ; > steps:                    19
 ; > idle events:              3
@@ -47,6 +51,9 @@
 ; > Report bytes:             0
 ; > function 0, activities:   2, most steps: 6, bound: 15
 ; > function 3, activities:   1, most steps: 9, bound: 13
+; > activity 0, function 3, place 0, steps: 9, bound: 13
+; > activity 1, function 0, place 0, steps: 6, bound: 15
+; > activity 2, function 0, place 1, steps: 4, bound: 15
 ; > place 0, objects:         0
 ; > place 0, rails:           0
 ; > place 0, texts:           0

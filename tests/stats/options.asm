@@ -1,4 +1,4 @@
-; What was in a run is told only of `run`, without threads; and not where there was none.
+; What was in a run is told only of `run`, without threads; and not where there was none. So it is with each activity in it.
 ;
 ; $ x10p run options.x10 --stats --threads
 ; status 3
@@ -8,6 +8,16 @@
 ; status 3
 ; $ x10p runs options.x10 --stats
 ; status 3
+; $ x10p run options.x10 --verbose
+; status 3
+; $ x10p run options.x10 --verbose --threads
+; status 3
+; $ x10p run options.x10 --stats --verbose --threads
+; status 3
+; $ x10p runs options.x10 --verbose
+; status 3
+; $ x10p run options.x10 --stats --verbose --places 1
+; status 1: places
 ; $ x10p run options.x10 --stats --places 1
 ; status 1: places
 ; $ x10p run options.x10 --stats --explain --places 1

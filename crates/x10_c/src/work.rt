@@ -124,6 +124,7 @@ fn task(verb: Verb, places: Option<u16>, limit: u64) -> Task<'static>
         threads: false,
         json: false,
         stats: false,
+        activities: false,
         explain: false,
         color: Color::Never,
     }

@@ -37,16 +37,16 @@ pub all_kept : (asked : Option ℕ) (bytes : List ℕ) (Went : Certified → Cou
     → LeavesCounts asked bytes Went json text a b → Keeps b c → LeavesCounts asked bytes Went json text a c
 all_kept asked bytes Went json text a b c p k = (p.0, p.1, p.2, p.3, counts_kept p.0 p.1 (Went p.0) json text a b c p.4 k)
 
-pub some_kept : (asked : Option ℕ) (bytes : List ℕ) (limit : ℕ) (f : Fault) (json : Bool) (text a b c : Option (List ℕ))
-    → LeavesSomeCounts asked bytes limit f json text a b → Keeps b c → LeavesSomeCounts asked bytes limit f json text a c
-some_kept asked bytes limit f json text a b c (inl p) k = inl (p.0, p.1, Keeps-trans a b c p.2 k)
-some_kept asked bytes limit f json text a b c (inr p) k = inr (all_kept asked bytes (CountsSome limit f) json text a b c p k)
+pub some_kept : (asked : Option ℕ) (bytes : List ℕ) (limit : ℕ) (kept : Bool) (f : Fault) (json : Bool) (text a b c : Option (List ℕ))
+    → LeavesSomeCounts asked bytes limit kept f json text a b → Keeps b c → LeavesSomeCounts asked bytes limit kept f json text a c
+some_kept asked bytes limit kept f json text a b c (inl p) k = inl (p.0, p.1, Keeps-trans a b c p.2 k)
+some_kept asked bytes limit kept f json text a b c (inr p) k = inr (all_kept asked bytes (CountsSome limit kept f) json text a b c p k)
 
 -- ---- a run that has ended
 
-pub counts_printed : (asked : Option ℕ) (bytes : List ℕ) (limit : ℕ) (json : Bool) (text a b : Option (List ℕ))
-    → LeavesCounts asked bytes (CountsAll limit) json text a b → Prints verb.Run json asked bytes a b
-counts_printed asked bytes limit json text a b p = (
+pub counts_printed : (asked : Option ℕ) (bytes : List ℕ) (limit : ℕ) (kept json : Bool) (text a b : Option (List ℕ))
+    → LeavesCounts asked bytes (CountsAll limit kept) json text a b → Prints verb.Run json asked bytes a b
+counts_printed asked bytes limit kept json text a b p = (
   p.0,
   lines_at p.4.last.places,
   p.2,
@@ -54,38 +54,40 @@ counts_printed asked bytes limit json text a b p = (
   p.4.printed,
 )
 
-pub counts_left : {T : Type 0} (r : Result T Fault) (asked : Option ℕ) (bytes : List ℕ) (c : Certified) (first : WorldState) (limit : ℕ) (json : Bool)
-    (text a b : Option (List ℕ)) → IsImageOf bytes c → IsOpenedWorld c (places_for asked c) first
-    → OnOk r (PrintsCounts c first (CountsAll limit c) json text a b) → OnOk r (LeavesCounts asked bytes (CountsAll limit) json text a b)
-counts_left (Ok t) asked bytes c first limit json text a b is opened p = (c, first, is, opened, p)
-counts_left (Err e) asked bytes c first limit json text a b is opened p = tt
+pub counts_left : {T : Type 0} (r : Result T Fault) (asked : Option ℕ) (bytes : List ℕ) (c : Certified) (first : WorldState) (limit : ℕ)
+    (kept json : Bool) (text a b : Option (List ℕ)) → IsImageOf bytes c → IsOpenedWorld c (places_for asked c) first
+    → OnOk r (PrintsCounts c first (CountsAll limit kept c) json text a b)
+    → OnOk r (LeavesCounts asked bytes (CountsAll limit kept) json text a b)
+counts_left (Ok t) asked bytes c first limit kept json text a b is opened p = (c, first, is, opened, p)
+counts_left (Err e) asked bytes c first limit kept json text a b is opened p = tt
 
 -- ---- one that stopped
 
-abbrev pub Stops : Certified → WorldState → ℕ → Fault → Bool → Option (List ℕ) → Option (List ℕ) → Option (List ℕ) → Type 0
-Stops c first limit e json text a b = (e ≡ fault.File) ⊎ ((e ≡ fault.Memory) × (text ≡ None) × Keeps a b)
-    ⊎ PrintsCounts c first (CountsSome limit e c) json text a b
+abbrev pub Stops : Certified → WorldState → ℕ → Bool → Fault → Bool → Option (List ℕ) → Option (List ℕ) → Option (List ℕ) → Type 0
+Stops c first limit kept e json text a b = (e ≡ fault.File) ⊎ ((e ≡ fault.Memory) × (text ≡ None) × Keeps a b)
+    ⊎ PrintsCounts c first (CountsSome limit kept e c) json text a b
 
-stop_left : (e : Fault) (asked : Option ℕ) (bytes : List ℕ) (c : Certified) (first : WorldState) (limit : ℕ) (json : Bool) (text a b : Option (List ℕ))
-    → IsImageOf bytes c → IsOpenedWorld c (places_for asked c) first → Stops c first limit e json text a b → status_of e ≡ 2
-    → LeavesSomeCounts asked bytes limit e json text a b
-stop_left e asked bytes c first limit json text a b is opened (inl f) s = absurd (no_file e f s)
-stop_left e asked bytes c first limit json text a b is opened (inr (inl k)) s = inl k
-stop_left e asked bytes c first limit json text a b is opened (inr (inr p)) s = inr (c, first, is, opened, p)
+stop_left : (e : Fault) (asked : Option ℕ) (bytes : List ℕ) (c : Certified) (first : WorldState) (limit : ℕ) (kept json : Bool)
+    (text a b : Option (List ℕ)) → IsImageOf bytes c → IsOpenedWorld c (places_for asked c) first → Stops c first limit kept e json text a b
+    → status_of e ≡ 2 → LeavesSomeCounts asked bytes limit kept e json text a b
+stop_left e asked bytes c first limit kept json text a b is opened (inl f) s = absurd (no_file e f s)
+stop_left e asked bytes c first limit kept json text a b is opened (inr (inl k)) s = inl k
+stop_left e asked bytes c first limit kept json text a b is opened (inr (inr p)) s = inr (c, first, is, opened, p)
 
-pub stops_left : {T : Type 0} (r : Result T Fault) (asked : Option ℕ) (bytes : List ℕ) (c : Certified) (first : WorldState) (limit : ℕ) (json : Bool)
-    (text a b : Option (List ℕ)) → IsImageOf bytes c → IsOpenedWorld c (places_for asked c) first
-    → IfErr r (λ e. Stops c first limit e json text a b) → IfErr r (λ e. status_of e ≡ 2 → LeavesSomeCounts asked bytes limit e json text a b)
-stops_left (Ok t) asked bytes c first limit json text a b is opened p = tt
-stops_left (Err e) asked bytes c first limit json text a b is opened p = stop_left e asked bytes c first limit json text a b is opened p
+pub stops_left : {T : Type 0} (r : Result T Fault) (asked : Option ℕ) (bytes : List ℕ) (c : Certified) (first : WorldState) (limit : ℕ)
+    (kept json : Bool) (text a b : Option (List ℕ)) → IsImageOf bytes c → IsOpenedWorld c (places_for asked c) first
+    → IfErr r (λ e. Stops c first limit kept e json text a b)
+    → IfErr r (λ e. status_of e ≡ 2 → LeavesSomeCounts asked bytes limit kept e json text a b)
+stops_left (Ok t) asked bytes c first limit kept json text a b is opened p = tt
+stops_left (Err e) asked bytes c first limit kept json text a b is opened p = stop_left e asked bytes c first limit kept json text a b is opened p
 
 -- ---- from what was counted
 
-pub some_counts : (c : Certified) (first last : WorldState) (limit : ℕ) (why : Unfinished) (e : Fault) (s t : CountsState) (json : Bool) (text a b : Option (List ℕ))
-    → RunsTo first last → e ≡ of_halt why → s ≡ counts_at_first c first → IsCut s first limit t last why
+pub some_counts : (c : Certified) (first last : WorldState) (limit : ℕ) (kept : Bool) (why : Unfinished) (e : Fault) (s t : CountsState) (json : Bool)
+    (text a b : Option (List ℕ)) → RunsTo first last → e ≡ of_halt why → s ≡ counts_at_first c kept first → IsCut s first limit t last why
     → Appends a b (all_lines json 0 (lines_at last.places)) → text ≡ Some (stats_lines c t last.places)
-    → PrintsCounts c first (CountsSome limit e c) json text a b
-some_counts c first last limit why e s t json text a b to is start cut printed told = record {
+    → PrintsCounts c first (CountsSome limit kept e c) json text a b
+some_counts c first last limit kept why e s t json text a b to is start cut printed told = record {
   last = last;
   counts = t;
   runs = to;

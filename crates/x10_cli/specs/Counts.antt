@@ -19,14 +19,14 @@ use Rattle.x10_cli.specs.Telling.{SaysFault}
 abbrev pub Course : Type 1
 Course = WorldState → CountsState → WorldState → Type 0
 
--- at most so many events of a module were made and counted, and no activity lives
-abbrev pub CountsAll : ℕ → Certified → Course
-CountsAll limit c x s y = HasCounted (counts_at_first c x) x limit s y × NoneIsLeft y
+-- at most so many events of a module were made and counted, each activity was kept or none, and none lives
+abbrev pub CountsAll : ℕ → (kept : Bool) → Certified → Course
+CountsAll limit kept c x s y = HasCounted (counts_at_first c kept x) x limit s y × NoneIsLeft y
 
 -- the fault tells why no more of them were made
-abbrev pub CountsSome : ℕ → Fault → Certified → Course
-CountsSome limit f c x s y = (why : Unfinished) × (f ≡ of_halt why)
-    × IsCut (counts_at_first c x) x limit s y why
+abbrev pub CountsSome : ℕ → (kept : Bool) → Fault → Certified → Course
+CountsSome limit kept f c x s y = (why : Unfinished) × (f ≡ of_halt why)
+    × IsCut (counts_at_first c kept x) x limit s y why
 
 -- a run of a module from a state of a world went so, the lines of its places were appended, and the text tells what was counted,
 -- beside the bounds of its functions, and what is in the heaps of its last state
@@ -47,14 +47,15 @@ LeavesCounts asked bytes Went json text old new = (c : Certified) × (first : Wo
     × PrintsCounts c first (Went c) json text old new
 
 -- what a run that stopped leaves: nothing, where memory is lacking; or the lines and the counts of its events until then
-abbrev pub LeavesSomeCounts : Option ℕ → List ℕ → ℕ → Fault → Bool → Option (List ℕ)
+abbrev pub LeavesSomeCounts : Option ℕ → List ℕ → ℕ → Bool → Fault → Bool → Option (List ℕ)
     → Option (List ℕ) → Option (List ℕ) → Type 0
-LeavesSomeCounts asked bytes limit f json text old new =
+LeavesSomeCounts asked bytes limit kept f json text old new =
     ((f ≡ fault.Memory) × (text ≡ None) × Keeps old new)
-    ⊎ LeavesCounts asked bytes (CountsSome limit f) json text old new
+    ⊎ LeavesCounts asked bytes (CountsSome limit kept f) json text old new
 
 -- the same, with the line of the fault, and perhaps what explains it
-abbrev pub LeavesStoppedCounts : Option ℕ → List ℕ → ℕ → Bool → Bool → Option (List ℕ)
-    → (old new told_old told_new : Option (List ℕ)) → Type 0
-LeavesStoppedCounts asked bytes limit json explain text old new told_old told_new = (f : Fault)
-    × LeavesSomeCounts asked bytes limit f json text old new × SaysFault explain f told_old told_new
+abbrev pub LeavesStoppedCounts : Option ℕ → List ℕ → ℕ → (kept json explain : Bool)
+    → Option (List ℕ) → (old new told_old told_new : Option (List ℕ)) → Type 0
+LeavesStoppedCounts asked bytes limit kept json explain text old new told_old told_new = (f : Fault)
+    × LeavesSomeCounts asked bytes limit kept f json text old new
+    × SaysFault explain f told_old told_new

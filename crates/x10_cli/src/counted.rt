@@ -24,8 +24,8 @@ use x10_world::World;
 
 /// Runs a module in one thread, as `execute` does for a task without threads, and leaves in `stats` the lines that tell what
 /// was in the run: where it has ended, and where it stopped, until then. There are none where it was refused, or where memory
-/// for them or for the lines of places was; then nothing was printed. Each event is made by itself: where one activity works
-/// alone, that takes some 35 times as long as `execute`.
+/// for them or for the lines of places was; then nothing was printed. They tell of each activity where the task asks for that.
+/// Each event is made by itself: where one activity works alone, that takes some 35 times as long as `execute`.
 pub fn run_counted<O: Write, E: Write>(
     alloc: Global,
     task: &Task,
@@ -40,14 +40,15 @@ pub fn run_counted<O: Write, E: Write>(
     ensures printed { result ≡ 0 → Prints verb.Run task.now.json task.now.places bytes.now
         (O.contents out.old) (O.contents out.new) }
     ensures counted { result ≡ 0 → LeavesCounts task.now.places bytes.now
-        (CountsAll task.now.limit) task.now.json (option_map string_bytes stats.new)
-        (O.contents out.old) (O.contents out.new) }
+        (CountsAll task.now.limit task.now.activities) task.now.json
+        (option_map string_bytes stats.new) (O.contents out.old) (O.contents out.new) }
     ensures refused { result ≡ 1 → CanBeDone verb.Run task.now.places bytes.now → ⊥ }
     ensures left_refused { result ≡ 1 → (stats.new ≡ None)
         × Keeps (O.contents out.old) (O.contents out.new) }
     ensures left_stopped { result ≡ 2 → LeavesStoppedCounts task.now.places bytes.now
-        task.now.limit task.now.json task.now.explain (option_map string_bytes stats.new)
-        (O.contents out.old) (O.contents out.new) (E.contents err.old) (E.contents err.new) }
+        task.now.limit task.now.activities task.now.json task.now.explain
+        (option_map string_bytes stats.new) (O.contents out.old) (O.contents out.new)
+        (E.contents err.old) (E.contents err.new) }
     ensures told { (result ≡ 1) ⊎ (result ≡ 2) → Tells task.now.explain task.now.places bytes.now
         result (E.contents err.old) (E.contents err.new) }
 {
@@ -73,16 +74,17 @@ fn print_counted<O: Write>(
     requires { stats.old ≡ None }
     ensures done { IfOk result (λ _. CanBeDone verb.Run task.now.places bytes.now) }
     ensures counted { OnOk result (LeavesCounts task.now.places bytes.now
-        (CountsAll task.now.limit) task.now.json (option_map string_bytes stats.new)
-        (O.contents out.old) (O.contents out.new)) }
+        (CountsAll task.now.limit task.now.activities) task.now.json
+        (option_map string_bytes stats.new) (O.contents out.old) (O.contents out.new)) }
     ensures refused { IfErr result (λ e. status_of e ≡ 1
         → CanBeDone verb.Run task.now.places bytes.now → ⊥) }
     ensures due { IfErr result (IsDue task.now.places bytes.now) }
     ensures refused_early { IfErr result (λ e. status_of e ≡ 1
         → (stats.new ≡ None) × Keeps (O.contents out.old) (O.contents out.new)) }
     ensures stopped { IfErr result (λ e. status_of e ≡ 2
-        → LeavesSomeCounts task.now.places bytes.now task.now.limit e task.now.json
-        (option_map string_bytes stats.new) (O.contents out.old) (O.contents out.new)) }
+        → LeavesSomeCounts task.now.places bytes.now task.now.limit task.now.activities e
+        task.now.json (option_map string_bytes stats.new) (O.contents out.old)
+        (O.contents out.new)) }
 {
     let verified = verified_in(alloc, bytes)?;
     let mut world = opened(alloc, task.places, &verified)?;
@@ -102,17 +104,17 @@ fn print_events<O: Write>(
     requires goes { world.old.stopped ≢ true }
     requires none { stats.old ≡ None }
     ensures ended { OnOk result (PrintsCounts verified.now world.old
-        (CountsAll task.now.limit verified.now) task.now.json (option_map string_bytes stats.new)
-        (O.contents out.old) (O.contents out.new)) }
+        (CountsAll task.now.limit task.now.activities verified.now) task.now.json
+        (option_map string_bytes stats.new) (O.contents out.old) (O.contents out.new)) }
     ensures stopped { IfErr result (λ e. (e ≡ fault.File)
         ⊎ ((e ≡ fault.Memory) × (option_map string_bytes stats.new ≡ None)
         × Keeps (O.contents out.old) (O.contents out.new))
-        ⊎ PrintsCounts verified.now world.old (CountsSome task.now.limit e verified.now)
-        task.now.json (option_map string_bytes stats.new) (O.contents out.old)
-        (O.contents out.new)) }
+        ⊎ PrintsCounts verified.now world.old
+        (CountsSome task.now.limit task.now.activities e verified.now) task.now.json
+        (option_map string_bytes stats.new) (O.contents out.old) (O.contents out.new)) }
     ensures status { IfErr result (λ e. status_of e ≢ 1) }
 {
-    let mut counts = Counts::new(alloc, verified, world)?;
+    let mut counts = Counts::new(alloc, verified, world, task.activities)?;
     let ended = count_run(alloc, world, schedule_of(task), task.limit, &mut counts);
     print_with_counts(alloc, task.json, verified, &counts, world, out, stats)?;
     Ok(ended?)

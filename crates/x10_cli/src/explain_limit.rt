@@ -113,7 +113,7 @@ fn share_of(
     if fault == Fault::Limit && most < task.limit {
         return Ok(None);
     }
-    let mut counts = Counts::new(alloc, verified, world)?;
+    let mut counts = Counts::new(alloc, verified, world, false)?;
     match count_run(alloc, world, schedule_of(task), most, &mut counts) {
         Err(halt) if Fault::from(halt) == fault => {}
         Err(Unfinished::Limit) if most < task.limit => return Ok(None),

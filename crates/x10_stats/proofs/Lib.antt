@@ -5,3 +5,4 @@ pub mod FrameTypes
 pub mod SeveralLines
 pub mod WholeText
 pub mod MostSteps
+pub mod KeptSteps

@@ -13,7 +13,7 @@ use Rattle.x10_world.specs.declared.done.Done.TheVariants as done
 use Rattle.x10_stats.specs.Counts.{Counted, CountsState, counted_with, counts_at_first}
 use Rattle.x10_stats.specs.Counts.Counted.{begins, goes_on}
 use Rattle.x10_stats.specs.Stats.{sum, with_any_type, with_flight, with_flights, with_posted, with_type}
-use Rattle.x10_stats.specs.Tallies.{TallyState, activity_at, arrived, as_pair, begun_by, begun_from, empty_tally, functions_reaching, functions_with, gone_back, in_any_row, left_by, nobody, none_begun, noted, one_more, one_step, or_nobody, reaching, ready, rows_with_room, sight_of, stay_at, stepped, taken_over, with_activity, with_begun, with_room, with_row, with_steps}
+use Rattle.x10_stats.specs.Tallies.{TallyState, activity_at, all_with_room, arrived, as_pair, begun_as, begun_by, begun_from, empty_tally, functions_reaching, functions_with, gone_back, in_any_row, left_by, next_one, nobody, none_begun, noted, one_more, one_step, or_nobody, reaching, ready, row_with_room, rows_with_room, sight_of, stay_at, stepped, taken_over, with_activity, with_begun, with_known, with_next_room, with_one_more, with_room, with_rooms, with_row, with_steps}
 use Rattle.x10_stats.specs.declared.activity.Activity.{Activity}
 use Rattle.x10_stats.specs.declared.sight.Sight.{Sight}
 use Rattle.x10_stats.specs.declared.stats.Stats.{Stats}
@@ -45,6 +45,7 @@ Reached n g = g.most ≤ n
 record IsWithin (n : ℕ) (t : TallyState) : Type 0 where
   rows : All (Fair n) t.rows
   functions : All (Reached n) t.functions
+  all : Fair n t.all
 
 nobody_few : (n : ℕ) → Few n nobody
 nobody_few n = omega arith
@@ -70,19 +71,40 @@ set_within : (n : ℕ) (t : TallyState) (place key : ℕ) (a : Activity) → IsW
 set_within n t place key a w few = record {
   rows = set_rows n t.rows place key a (slice_get t.rows place) refl w.rows few;
   functions = w.functions;
+  all = w.all;
 }
+
+known_within : (n : ℕ) (t : TallyState) (a : Activity) → IsWithin n t → Few n a → IsWithin n (with_known t a)
+known_within n t a w few = record { rows = w.rows; functions = w.functions; all = All-set (Few n) t.all a.number a few w.all }
+
+one_within : (n : ℕ) (t : TallyState) → IsWithin n t → IsWithin n (with_one_more t)
+one_within n t w = record { rows = w.rows; functions = w.functions; all = w.all }
+
+room_row : (n : ℕ) (row : List Activity) (key : ℕ) → Fair n row → Fair n (row_with_room row key)
+room_row n row key fair = All-append (Few n) row _ fair (All-replicate (Few n) _ nobody (nobody_few n))
 
 room_rows : (n : ℕ) (rows : List (List Activity)) (place key : ℕ) (o : Option (List Activity)) → slice_get rows place ≡ o
     → All (Fair n) rows → All (Fair n) (rows_with_room rows place key o)
 room_rows n rows place key None is all = all
 room_rows n rows place key (Some row) is all =
-    All-set (Fair n) rows place _ (All-append (Few n) row _ (item (Fair n) rows place row all is) (All-replicate (Few n) _ nobody (nobody_few n))) all
+    All-set (Fair n) rows place _ (room_row n row key (item (Fair n) rows place row all is)) all
 
 room_within : (n : ℕ) (t : TallyState) (place key : ℕ) → IsWithin n t → IsWithin n (with_room t place key)
 room_within n t place key w = record {
   rows = room_rows n t.rows place key (slice_get t.rows place) refl w.rows;
   functions = w.functions;
+  all = w.all;
 }
+
+room_all : (n : ℕ) (all : List Activity) (next : ℕ) (kept : Bool) → Fair n all → Fair n (all_with_room all next kept)
+room_all n all next true fair = room_row n all next fair
+room_all n all next false fair = fair
+
+next_within : (n : ℕ) (t : TallyState) → IsWithin n t → IsWithin n (with_next_room t)
+next_within n t w = record { rows = w.rows; functions = w.functions; all = room_all n t.all t.next t.kept w.all }
+
+rooms_within : (n : ℕ) (t : TallyState) (place key : ℕ) → IsWithin n t → IsWithin n (with_rooms t place key)
+rooms_within n t place key w = room_within n (with_next_room t) place key (next_within n t w)
 
 begun_functions : (n : ℕ) (fs : List Begun) (f : ℕ) (o : Option Begun) → slice_get fs f ≡ o → All (Reached n) fs
     → All (Reached n) (functions_with fs f o)
@@ -90,7 +112,11 @@ begun_functions n fs f None is all = all
 begun_functions n fs f (Some g) is all = All-set (Reached n) fs f (one_more g) (item (Reached n) fs f g all is) all
 
 begun_within : (n : ℕ) (t : TallyState) (f : ℕ) → IsWithin n t → IsWithin n (with_begun t f)
-begun_within n t f w = record { rows = w.rows; functions = begun_functions n t.functions f (slice_get t.functions f) refl w.functions }
+begun_within n t f w = record {
+  rows = w.rows;
+  functions = begun_functions n t.functions f (slice_get t.functions f) refl w.functions;
+  all = w.all;
+}
 
 most_of : (n most steps : ℕ) → most ≤ n → steps ≤ n → max most steps ≤ n
 most_of n most steps a b = omega (arith, a, b)
@@ -105,6 +131,7 @@ reaching_within : (n : ℕ) (t : TallyState) (f steps : ℕ) → IsWithin n t �
 reaching_within n t f steps w few = record {
   rows = w.rows;
   functions = reaching_functions n t.functions f steps (slice_get t.functions f) refl w.functions few;
+  all = w.all;
 }
 
 -- ---- events
@@ -119,6 +146,7 @@ grown : (n m : ℕ) (t : TallyState) → n ≤ m → IsWithin n t → IsWithin m
 grown n m t less w = record {
   rows = All-weaker (Fair n) (Fair m) (grown_rows n m less) t.rows w.rows;
   functions = All-weaker (Reached n) (Reached m) (λ g few. omega (arith, less, few)) t.functions w.functions;
+  all = grown_rows n m less t.all w.all;
 }
 
 -- a number of steps of 64 bits, and one more
@@ -130,18 +158,27 @@ no_fewer n less = omega (arith, less)
 
 stepped_within : (n : ℕ) (t : TallyState) (place key : ℕ) → n < 2 ^ 64 → IsWithin n t → IsWithin (sum n 1) (stepped t place key)
 stepped_within n t place key less w =
-    let few : Few (sum n 1) (one_step (activity_at t place key)) = step_few n (activity_at t place key).steps (at_few n t place key w) in
-    reaching_within (sum n 1) (with_activity t place key (one_step (activity_at t place key))) _ _
-    (set_within (sum n 1) t place key (one_step (activity_at t place key)) (grown n (sum n 1) t (no_fewer n less) w) few) few
+    let a : Activity = one_step (activity_at t place key) in
+    let few : Few (sum n 1) a = step_few n (activity_at t place key).steps (at_few n t place key w) in
+    reaching_within (sum n 1) (with_known (with_activity t place key a) a) _ _
+    (known_within (sum n 1) (with_activity t place key a) a
+    (set_within (sum n 1) t place key a (grown n (sum n 1) t (no_fewer n less) w) few) few) few
 
 over_within : (n : ℕ) (t : TallyState) (place key from waiting : ℕ) → IsWithin n t → IsWithin n (taken_over t place key from waiting)
 over_within n t place key from waiting w = set_within n t place key (activity_at t from waiting) w (at_few n t from waiting w)
 
-new_few : (n f : ℕ) → Few n (record { function = f; steps = 0 })
-new_few n f = omega arith
+new_few : (n : ℕ) (t : TallyState) (place f : ℕ) → Few n (next_one t place f)
+new_few n t place f = omega arith
+
+as_within : (n : ℕ) (t : TallyState) (place key : ℕ) (a : Activity) → IsWithin n t → Few n a → IsWithin n (begun_as t place key a)
+as_within n t place key a w few =
+    let known : IsWithin n (with_known (with_activity t place key a) a) =
+    known_within n (with_activity t place key a) a (set_within n t place key a w few) few in
+    begun_within n (with_one_more (with_known (with_activity t place key a) a)) a.function
+    (one_within n (with_known (with_activity t place key a) a) known)
 
 from_within : (n : ℕ) (t : TallyState) (place key f : ℕ) (back : Option (ℕ × ℕ)) → IsWithin n t → IsWithin n (begun_from t place key f back)
-from_within n t place key f None w = begun_within n (with_activity t place key _) f (set_within n t place key _ w (new_few n f))
+from_within n t place key f None w = as_within n t place key (next_one t place f) w (new_few n t place f)
 from_within n t place key f (Some o) w = over_within n t place key o.0 o.1 w
 
 by_within : (n : ℕ) (t : TallyState) (place key : ℕ) (stay : Option StayState) → IsWithin n t → IsWithin n (begun_by t place key stay)
@@ -190,11 +227,11 @@ record IsFair (s : CountsState) : Type 0 where
 event_fair : (s : CountsState) (x : WorldState) (event : Event) (did : Done) (y : WorldState) → IsFair s → IsFair (counted_with s x event did y)
 event_fair s x event done.Idle y f = record {
   less = f.less;
-  within = room_within s.stats.steps s.tally _ _ f.within;
+  within = rooms_within s.stats.steps s.tally _ _ f.within;
 }
 event_fair s x event (done.Taken to) y f = record {
   less = f.less;
-  within = by_within s.stats.steps _ _ _ _ (room_within s.stats.steps s.tally _ _ f.within);
+  within = by_within s.stats.steps _ _ _ _ (rooms_within s.stats.steps s.tally _ _ f.within);
 }
 event_fair s x event (done.Moved function pc op first count) y f =
     let same : (with_posted y first s.stats).steps ≡ s.stats.steps = flights_same y.flights first (y.flights.posted - first) s.stats in
@@ -202,7 +239,7 @@ event_fair s x event (done.Moved function pc op first count) y f =
     let see : Sight = sight_of x event in
     let begun : TallyState = arrived (stepped (ready s.tally see) see.place see.key) y see.place see.vacant in
     let first_within = stepped_within s.stats.steps (ready s.tally see) see.place see.key f.less
-    (room_within s.stats.steps s.tally see.place see.vacant f.within) in
+    (rooms_within s.stats.steps s.tally see.place see.vacant f.within) in
     let all = left_within (sum s.stats.steps 1) begun see.place see.key see.back (stay_at y see.place see.key)
     (by_within (sum s.stats.steps 1) (stepped (ready s.tally see) see.place see.key) see.place see.vacant (stay_at y see.place see.vacant) first_within) in
     record {
@@ -210,20 +247,22 @@ event_fair s x event (done.Moved function pc op first count) y f =
       within = subst (λ n. IsWithin n (noted (ready s.tally see) see y (done.Moved function pc op first count))) (sym one) all;
     }
 
-first_fair : (c : Certified) (x : WorldState) → IsFair (counts_at_first c x)
-first_fair c x =
-    let empty : IsWithin 0 (empty_tally c x) = record {
+first_fair : (c : Certified) (kept : Bool) (x : WorldState) → IsFair (counts_at_first c kept x)
+first_fair c kept x =
+    let empty : IsWithin 0 (empty_tally c kept x) = record {
       rows = All-replicate (Fair 0) (length x.places) [] (empty_fair 0);
       functions = All-replicate (Reached 0) (length c.program.functions) none_begun (omega arith);
+      all = empty_fair 0;
     } in record {
       less = omega arith;
-      within = by_within 0 (with_room (empty_tally c x) 0 0) 0 0 (stay_at x 0 0) (room_within 0 (empty_tally c x) 0 0 empty);
+      within = by_within 0 (with_rooms (empty_tally c kept x) 0 0) 0 0 (stay_at x 0 0) (rooms_within 0 (empty_tally c kept x) 0 0 empty);
     }
 
-counts_fair : (c : Certified) (x : WorldState) (events : List Event) (t : CountsState) (y : WorldState) → Counted (counts_at_first c x) x events t y → IsFair t
-counts_fair c x _ _ _ begins = first_fair c x
-counts_fair c x _ _ _ (goes_on y z events t event did before done makes) = event_fair t y event did z (counts_fair c x events t y before)
+counts_fair : (c : Certified) (kept : Bool) (x : WorldState) (events : List Event) (t : CountsState) (y : WorldState)
+    → Counted (counts_at_first c kept x) x events t y → IsFair t
+counts_fair c kept x _ _ _ begins = first_fair c kept x
+counts_fair c kept x _ _ _ (goes_on y z events t event did before done makes) = event_fair t y event did z (counts_fair c kept x events t y before)
 
-pub most_steps : (c : Certified) (x : WorldState) (events : List Event) (t : CountsState) (y : WorldState) → Counted (counts_at_first c x) x events t y
-    → All (λ (g : Begun). g.most ≤ t.stats.steps) t.tally.functions
-most_steps c x events t y counts = (counts_fair c x events t y counts).within.functions
+pub most_steps : (c : Certified) (kept : Bool) (x : WorldState) (events : List Event) (t : CountsState) (y : WorldState)
+    → Counted (counts_at_first c kept x) x events t y → All (λ (g : Begun). g.most ≤ t.stats.steps) t.tally.functions
+most_steps c kept x events t y counts = (counts_fair c kept x events t y counts).within.functions

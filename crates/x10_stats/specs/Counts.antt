@@ -1,5 +1,5 @@
 -- What is counted of whole runs.
-use Rattle.std.specs.Prelude.{◌≡◌, ◌≢◌, ℕ, ◌≤◌, true, List, [], ◌∷◌, ◌++◌, length}
+use Rattle.std.specs.Prelude.{◌≡◌, ◌≢◌, ℕ, ◌≤◌, Bool, true, List, [], ◌∷◌, ◌++◌, length}
 use Rattle.x10_kinds.specs.declared.stop.Stop.{Stop}
 use Rattle.x10_model.specs.Worlds.{World}
 use Rattle.x10_model.specs.declared.event.Event.{Event}
@@ -22,12 +22,12 @@ pub record CountsState : Type 0 where
   pub pace : Pace
   pub tally : TallyState
 
--- before the first event
-abbrev pub counts_at_first : Certified → WorldState → CountsState
-counts_at_first c x = record {
+-- before the first event; each activity is kept, or none
+abbrev pub counts_at_first : Certified → (kept : Bool) → WorldState → CountsState
+counts_at_first c kept x = record {
   stats = at_first x;
   pace = pace_at_first;
-  tally = tally_at_first c x;
+  tally = tally_at_first c kept x;
 }
 
 -- with what an event did more, from the world before it to the one after it

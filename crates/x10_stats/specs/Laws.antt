@@ -1,5 +1,5 @@
 -- Laws of what is counted.
-use Rattle.std.specs.Prelude.{◌≡◌, ◌<◌, ◌≤◌, ◌+◌, ◌^◌, All, List, length}
+use Rattle.std.specs.Prelude.{◌≡◌, ◌<◌, ◌≤◌, ◌+◌, ◌^◌, Bool, All, List, Some, length, slice_get}
 use Rattle.x10_model.specs.Frames.{Frame, spelling, type_of}
 use Rattle.x10_model.specs.declared.event.Event.{Event}
 use Rattle.x10_model.specs.declared.version.FrameVersion.{FrameVersion}
@@ -7,6 +7,7 @@ use Rattle.x10_world.specs.StandsForWorld.{WorldState}
 use Rattle.x10_verify.specs.Certified.{Certified}
 use Rattle.x10_stats.specs.Counts.{Counted, CountsState, counts_at_first}
 use Rattle.x10_stats.specs.Stats.{all_events, with_frame, with_type}
+use Rattle.x10_stats.specs.declared.activity.Activity.{Activity}
 use Rattle.x10_stats.specs.declared.stats.Stats.{Stats}
 use Rattle.x10_stats.specs.declared.tally.Begun.{Begun}
 
@@ -23,6 +24,16 @@ FramesAreCountedByType = (s : Stats) (v : FrameVersion) (f : Frame)
 
 -- of the activities that are followed from the first event on, none has made more steps than there were
 abbrev pub NoneMadeMoreSteps : Type 0
-NoneMadeMoreSteps = (c : Certified) (x y : WorldState) (events : List Event) (s : CountsState)
-    → Counted (counts_at_first c x) x events s y
+NoneMadeMoreSteps = (c : Certified) (kept : Bool) (x y : WorldState) (events : List Event)
+    (s : CountsState) → Counted (counts_at_first c kept x) x events s y
     → All (λ (g : Begun). g.most ≤ s.stats.steps) s.tally.functions
+
+-- an activity has made no more steps than the most that is told of its function
+abbrev pub IsWithinMost : List Begun → Activity → Type 0
+IsWithinMost functions a = (g : Begun) → slice_get functions a.function ≡ Some g → a.steps ≤ g.most
+
+-- of those that are kept from the first event on, each is within that
+abbrev pub EachIsWithinMost : Type 0
+EachIsWithinMost = (c : Certified) (kept : Bool) (x y : WorldState) (events : List Event)
+    (s : CountsState) → Counted (counts_at_first c kept x) x events s y
+    → All (IsWithinMost s.tally.functions) s.tally.all

@@ -4,6 +4,8 @@ use Rattle.x10_heap.specs.Heaps.{HeapState}
 use Rattle.x10_place.specs.StandsFor.{PlaceState}
 use Rattle.x10_verify.specs.Certified.{Certified}
 use Rattle.x10_stats.specs.Counts.{CountsState}
+use Rattle.x10_stats.specs.Tallies.{TallyState}
+use Rattle.x10_stats.specs.declared.activity.Activity.{Activity}
 use Rattle.x10_stats.specs.declared.stats.Stats.{Stats}
 use Rattle.x10_stats.specs.declared.stats.Volume.{Volume}
 use Rattle.x10_stats.specs.declared.tally.Begun.{Begun}
@@ -90,9 +92,41 @@ function_lines functions bounds (suc f) = function_lines functions bounds f
 abbrev pub all_function_lines : List Begun → Certified → List ℕ
 all_function_lines functions c = function_lines functions c.bounds (length c.program.functions)
 
+-- a line of an activity with a number: with which function it began, and at which place; it has made so many steps, and may
+-- make no more than its function's bound
+abbrev pub activity_line : ℕ → Activity → ℕ → List ℕ
+activity_line n a bound = codes "activity "
+    ++ (decimal n ++ (codes ", function "
+    ++ (decimal a.function ++ (codes ", place "
+    ++ (decimal a.place ++ (codes ", steps: "
+    ++ (decimal a.steps ++ (codes ", bound: " ++ (decimal bound ++ 10 ∷ [])))))))))
+
+-- the bound of a function, if the module has it
+abbrev pub bound_in : Certified → ℕ → Option ℕ
+bound_in c f = if nat_lt f (length c.program.functions) then slice_get c.bounds f else None
+
+abbrev pub bounded_lines : ℕ → Activity → Option ℕ → List ℕ
+bounded_lines n a None = []
+bounded_lines n a (Some bound) = activity_line n a bound
+
+-- none where it isn't kept
+abbrev pub any_activity_lines : ℕ → Option Activity → Certified → List ℕ
+any_activity_lines n None c = []
+any_activity_lines n (Some a) c = bounded_lines n a (bound_in c a.function)
+
+-- those of the first so many activities
+abbrev pub activity_lines : List Activity → Certified → ℕ → List ℕ
+activity_lines all c zero = []
+activity_lines all c (suc n) = activity_lines all c n ++ any_activity_lines n (slice_get all n) c
+
+-- those of all that began
+abbrev pub all_activity_lines : TallyState → Certified → List ℕ
+all_activity_lines t c = activity_lines t.all c t.next
+
 -- the lines that tell what was in a run of a module, which left the places so
 abbrev pub stats_lines : Certified → CountsState → List PlaceState → List ℕ
 stats_lines c s places = event_lines s.stats s.pace.rounds
     ++ (begin_lines s.stats.spawns s.stats.shifts
     ++ (end_lines s.stats.backs s.stats.reports
-    ++ (all_function_lines s.tally.functions c ++ all_heap_lines 0 places)))
+    ++ (all_function_lines s.tally.functions c
+    ++ (all_activity_lines s.tally c ++ all_heap_lines 0 places))))

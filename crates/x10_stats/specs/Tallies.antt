@@ -1,5 +1,5 @@
 -- Which activity each stay is of, how many steps that has made, and what is told of each function.
-use Rattle.std.specs.Prelude.{ℕ, ◌-◌, max, List, [], ◌++◌, Option, Some, None, length, replicate, slice_get, slice_set}
+use Rattle.std.specs.Prelude.{ℕ, ◌-◌, max, Bool, List, [], ◌++◌, Option, Some, None, length, replicate, slice_get, slice_set, if◌then◌else◌}
 use Rattle.slab.specs.Slab.{get}
 use Rattle.x10_flights.specs.Flights.{Flight, flight_of}
 use Rattle.x10_model.specs.Places.{Origin}
@@ -17,15 +17,19 @@ use Rattle.x10_stats.specs.declared.sight.Sight.{Sight}
 use Rattle.x10_stats.specs.declared.tally.Begun.{Begun}
 
 -- By place and by key the activity of the stay there, or of the last one that was there; and what is told of each function. An
--- activity that is away is right where its last stay is; those that wait for it have what it had when it went.
+-- activity that is away is right where its last stay is; those that wait for it have what it had when it went. Where they are
+-- kept, there are also all activities by their numbers; and always the number that the next one gets.
 pub record TallyState : Type 0 where
   pub rows : List (List Activity)
   pub functions : List Begun
+  pub all : List Activity
+  pub next : ℕ
+  pub kept : Bool
 
 -- ---- what there is at a place
 
 abbrev pub nobody : Activity
-nobody = record { function = 0; steps = 0 }
+nobody = record { number = 0; place = 0; function = 0; steps = 0 }
 
 abbrev pub or_nobody : Option Activity → Activity
 or_nobody None = nobody
@@ -67,6 +71,27 @@ abbrev pub with_room : TallyState → ℕ → ℕ → TallyState
 with_room t place key = record t {
   rows = rows_with_room t.rows place key (slice_get t.rows place);
 }
+
+-- ---- all activities by their numbers
+
+abbrev pub all_with_room : List Activity → ℕ → Bool → List Activity
+all_with_room all next kept = if kept then row_with_room all next else all
+
+-- the next activity that begins has room, where all are kept
+abbrev pub with_next_room : TallyState → TallyState
+with_next_room t = record t { all = all_with_room t.all t.next t.kept }
+
+-- room for a stay with a key at a place, and for the activity that it may begin
+abbrev pub with_rooms : TallyState → ℕ → ℕ → TallyState
+with_rooms t place key = with_room (with_next_room t) place key
+
+-- what an activity is now stands at its number
+abbrev pub with_known : TallyState → Activity → TallyState
+with_known t a = record t { all = slice_set t.all a.number a }
+
+-- one more began
+abbrev pub with_one_more : TallyState → TallyState
+with_one_more t = record t { next = sum t.next 1 }
 
 -- ---- what is told of functions
 
@@ -147,7 +172,8 @@ abbrev pub one_step : Activity → Activity
 one_step a = record a { steps = sum a.steps 1 }
 
 abbrev pub with_step_of : TallyState → ℕ → ℕ → Activity → TallyState
-with_step_of t place key a = with_steps (with_activity t place key a) a.function a.steps
+with_step_of t place key a =
+    with_steps (with_known (with_activity t place key a) a) a.function a.steps
 
 abbrev pub stepped : TallyState → ℕ → ℕ → TallyState
 stepped t place key = with_step_of t place key (one_step (activity_at t place key))
@@ -156,10 +182,17 @@ stepped t place key = with_step_of t place key (one_step (activity_at t place ke
 abbrev pub taken_over : TallyState → ℕ → ℕ → ℕ → ℕ → TallyState
 taken_over t place key from waiting = with_activity t place key (activity_at t from waiting)
 
+-- the activity that begins next, at a place and with a function
+abbrev pub next_one : TallyState → ℕ → ℕ → Activity
+next_one t place f = record { number = t.next; place = place; function = f; steps = 0 }
+
+abbrev pub begun_as : TallyState → ℕ → ℕ → Activity → TallyState
+begun_as t place key a =
+    with_begun (with_one_more (with_known (with_activity t place key a) a)) a.function
+
 -- a stay that waits for nothing's result begins an activity; one for which a stay waits goes on with that one's
 abbrev pub begun_from : TallyState → ℕ → ℕ → ℕ → Option (ℕ × ℕ) → TallyState
-begun_from t place key f None =
-    with_begun (with_activity t place key (record { function = f; steps = 0 })) f
+begun_from t place key f None = begun_as t place key (next_one t place f)
 begun_from t place key f (Some from) = taken_over t place key from.0 from.1
 
 abbrev pub begun_by : TallyState → ℕ → ℕ → Option StayState → TallyState
@@ -191,7 +224,7 @@ noted t s y (done.Taken to) = arrived t y s.place s.vacant
 
 -- room for the stay that an event may begin
 abbrev pub ready : TallyState → Sight → TallyState
-ready t s = with_room t s.place s.vacant
+ready t s = with_rooms t s.place s.vacant
 
 abbrev pub tallied : TallyState → WorldState → Event → Done → WorldState → TallyState
 tallied t x event did y = noted (ready t (sight_of x event)) (sight_of x event) y did
@@ -201,12 +234,15 @@ tallied t x event did y = noted (ready t (sight_of x event)) (sight_of x event) 
 abbrev pub none_begun : Begun
 none_begun = record { activities = 0; most = 0 }
 
-abbrev pub empty_tally : Certified → WorldState → TallyState
-empty_tally c x = record {
+abbrev pub empty_tally : Certified → Bool → WorldState → TallyState
+empty_tally c kept x = record {
   rows = replicate (length x.places) [];
   functions = replicate (length c.program.functions) none_begun;
+  all = [];
+  next = 0;
+  kept = kept;
 }
 
 -- before the first event: main is at place 0, with key 0
-abbrev pub tally_at_first : Certified → WorldState → TallyState
-tally_at_first c x = arrived (with_room (empty_tally c x) 0 0) x 0 0
+abbrev pub tally_at_first : Certified → Bool → WorldState → TallyState
+tally_at_first c kept x = arrived (with_rooms (empty_tally c kept x) 0 0) x 0 0

@@ -1,5 +1,5 @@
 //! The activities at one place, by the keys of their stays.
-ghost use Rattle.std.specs.Prelude.{◌≡◌, OnErr, OnOk, [], slice_set};
+ghost use Rattle.std.specs.Prelude.{◌≡◌, OnErr, OnOk, [], length, slice_get, slice_set, take};
 ghost use Rattle.x10_stats.specs.Tallies.{in_row, nobody, one_step, or_nobody, row_with_room};
 
 use std::alloc::{AllocError, Global};
@@ -8,6 +8,10 @@ use std::marker::Model;
 /// An activity that is followed.
 #[derive(Clone, Copy, Debug, PartialEq, Eq)]
 pub(crate) struct Activity {
+    /// How many began before it.
+    pub(crate) number: usize,
+    /// The place where it began.
+    pub(crate) place: u16,
     /// The function with which it began.
     pub(crate) function: u16,
     /// How many steps it has made. A number that would pass 2^64 - 1 stays there.
@@ -20,6 +24,8 @@ impl Activity {
         ensures { result ≡ nobody }
     {
         Activity {
+            number: 0,
+            place: 0,
             function: 0,
             steps: 0,
         }
@@ -30,13 +36,16 @@ impl Activity {
         ensures { result ≡ one_step self }
     {
         Activity {
+            number: self.number,
+            place: self.place,
             function: self.function,
             steps: self.steps.saturating_add(1),
         }
     }
 }
 
-/// The activities at a place by the keys of their stays. A key that isn't in use has the one that was there last.
+/// The activities at a place by the keys of their stays. A key that isn't in use has the one that was there last. Or all that
+/// began, by their numbers.
 #[derive(Drop)]
 pub(crate) struct Row {
     list: Vec<Activity>,
@@ -59,6 +68,20 @@ impl Row {
         Row {
             list: Vec::new(alloc),
         }
+    }
+
+    /// How many keys have room.
+    pub(crate) fn len(&self) -> usize
+        ensures { result ≡ length self.now }
+    {
+        self.list.len()
+    }
+
+    /// What stands at a key, if it has room.
+    pub(crate) fn find(&self, key: usize) -> Option<Activity>
+        ensures { result ≡ slice_get self.now key }
+    {
+        self.list.get(key).copied()
     }
 
     /// The activity of the stay with a key.
@@ -90,5 +113,12 @@ impl Row {
             return Ok(());
         }
         self.list.resize(count, Activity::nobody())
+    }
+
+    /// Without room for keys from a number on.
+    pub(crate) fn shorten(&mut self, count: usize)
+        ensures { self.new ≡ take count self.old }
+    {
+        self.list.truncate(count);
     }
 }

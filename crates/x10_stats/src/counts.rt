@@ -33,14 +33,20 @@ impl Model for Counts {
 }
 
 impl Counts {
-    /// Before the first event of a world of a module. Linear in the module's functions and the places.
-    pub fn new(alloc: Global, verified: &Verified, world: &World) -> Result<Counts, AllocError>
-        ensures { IfOk result (λ counts. counts ≡ counts_at_first verified.now world.now) }
+    /// Before the first event of a world of a module. Linear in the module's functions and the places. Where `kept`, each
+    /// activity is kept, so that it is told: that takes 24 bytes for each one.
+    pub fn new(
+        alloc: Global,
+        verified: &Verified,
+        world: &World,
+        kept: bool,
+    ) -> Result<Counts, AllocError>
+        ensures { IfOk result (λ counts. counts ≡ counts_at_first verified.now kept world.now) }
     {
         Ok(Counts {
             stats: Stats::new(world),
             pace: Pace::new(),
-            tally: Tally::new(alloc, verified, world)?,
+            tally: Tally::new(alloc, verified, world, kept)?,
         })
     }
 

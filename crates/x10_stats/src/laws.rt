@@ -1,5 +1,5 @@
 //! Laws of what is counted. Each function does nothing: its contract is a law, and the check proves it.
-ghost use Rattle.x10_stats.specs.Laws.{EachIsCountedOnce, FramesAreCountedByType, NoneMadeMoreSteps};
+ghost use Rattle.x10_stats.specs.Laws.{EachIsCountedOnce, EachIsWithinMost, FramesAreCountedByType, NoneMadeMoreSteps};
 
 /// Each event is counted once: as a step, as idle, or as a delivery.
 pub fn each_is_counted_once()
@@ -14,4 +14,9 @@ pub fn frames_are_counted_by_type()
 /// No activity has made more steps than there were.
 pub fn none_made_more_steps()
     ensures { NoneMadeMoreSteps }
+{}
+
+/// No activity that is kept has made more steps than the most of its function.
+pub fn each_is_within_most()
+    ensures { EachIsWithinMost }
 {}

@@ -1,11 +1,12 @@
 //! The lines that tell what was in a run.
 ghost use Rattle.std.specs.Prelude.{◌≡◌, ◌++◌, IfOk, OnOk, Some, slice_get};
 ghost use Rattle.std.specs.String.{string_bytes};
-ghost use Rattle.x10_stats.specs.Lines.{all_function_lines, all_heap_lines, any_begun_lines, any_heap_lines, begin_lines, begun_lines, end_lines, event_lines, function_line, function_pad, heap_lines, line, pad, place_line, stats_lines};
+ghost use Rattle.x10_stats.specs.Lines.{activity_line, all_activity_lines, all_function_lines, all_heap_lines, any_activity_lines, any_begun_lines, any_heap_lines, begin_lines, begun_lines, bound_in, end_lines, event_lines, function_line, function_pad, heap_lines, line, pad, place_line, stats_lines};
 
+use crate::activity::Activity;
 use crate::counts::Counts;
 use crate::stats::{Stats, Volume};
-use crate::tally::Begun;
+use crate::tally::{Begun, Tally};
 use std::alloc::{AllocError, Global};
 use std::fmt::Write;
 use x10_heap::Heap;
@@ -13,7 +14,8 @@ use x10_verify::Verified;
 use x10_world::World;
 
 /// What was counted in a run of a module, a number on each line behind its name; a line for each function with which activities
-/// began; and what the heap of each place has in a world. Linear in the functions and the places.
+/// began; where they were kept, one for each activity; and what the heap of each place has in a world. Linear in the functions,
+/// the activities and the places.
 pub fn stats_text(
     alloc: Global,
     verified: &Verified,
@@ -24,11 +26,12 @@ pub fn stats_text(
         ≡ stats_lines verified.now counts.now world.now.places) }
 {
     let mut text = String::new(alloc);
-    let stats = counts.stats();
+    let (stats, tally) = (counts.stats(), counts.tally());
     push_events(&mut text, stats, counts.rounds())?;
     push_begins(&mut text, stats.spawns, stats.shifts)?;
     push_ends(&mut text, stats.backs, stats.reports)?;
-    push_functions(&mut text, verified, counts.tally().functions())?;
+    push_functions(&mut text, verified, tally.functions())?;
+    push_activities(&mut text, verified, tally)?;
     push_heaps(&mut text, world)?;
     Ok(text)
 }
@@ -140,6 +143,70 @@ fn function_pad_of(f: usize) -> &'static str
     } else {
         " "
     }
+}
+
+/// How many steps each activity made, if they were kept, in the order in which they began.
+fn push_activities(text: &mut String, verified: &Verified, tally: &Tally) -> Result<(), AllocError>
+    ensures { OnOk result (string_bytes text.new
+        ≡ string_bytes text.old ++ all_activity_lines tally.now verified.now) }
+{
+    for n in 0..tally.count() {
+        push_activity_at(text, n, tally.find(n), verified)?;
+    }
+    Ok(())
+}
+
+/// The line of an activity with a number, if it was kept.
+fn push_activity_at(
+    text: &mut String,
+    n: usize,
+    activity: Option<Activity>,
+    verified: &Verified,
+) -> Result<(), AllocError>
+    ensures { OnOk result (string_bytes text.new
+        ≡ string_bytes text.old ++ any_activity_lines n activity verified.now) }
+{
+    let Some(activity) = activity else {
+        return Ok(());
+    };
+    match bound_in(verified, activity.function) {
+        Some(bound) => push_activity(text, n, activity, bound),
+        None => Ok(()),
+    }
+}
+
+/// The bound of a function, if the module has it.
+fn bound_in(verified: &Verified, function: u16) -> Option<u64>
+    ensures { result ≡ bound_in verified.now function }
+{
+    let f = usize::from(function);
+    if f < verified.image().functions() {
+        Some(verified.bound(f))
+    } else {
+        None
+    }
+}
+
+/// The line of an activity.
+fn push_activity(
+    text: &mut String,
+    n: usize,
+    activity: Activity,
+    bound: u64,
+) -> Result<(), AllocError>
+    ensures { OnOk result (string_bytes text.new
+        ≡ string_bytes text.old ++ activity_line n activity bound) }
+{
+    let Activity {
+        place,
+        function,
+        steps,
+        ..
+    } = activity;
+    writeln!(
+        text,
+        "activity {n}, function {function}, place {place}, steps: {steps}, bound: {bound}"
+    )
 }
 
 /// What the heaps of all places have.

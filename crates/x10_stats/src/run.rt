@@ -24,7 +24,7 @@ const IDLE: Event = Event::Step(0, 0);
 /// counts each of them. The answer is Limit exactly where `limit` events were made and the last one didn't end the run. Where
 /// nothing can happen and the run has not ended, idle events make the rest. A world that has stopped answers so, and stays as
 /// it is. It makes each event by itself: where one activity works alone, it takes some 35 times as long as `run_by`. Following
-/// activities takes 16 bytes for each stay of those that there were at one time at a place.
+/// activities takes 24 bytes for each stay of those that there were at one time at a place.
 pub fn count_run(
     alloc: Global,
     world: &mut World,

@@ -1,6 +1,6 @@
 //! Activities that are followed from place to place, and what is told of the functions with which they began.
 ghost use Rattle.std.specs.Prelude.{◌≡◌, ◌<◌, IfOk, OnErr, OnOk, [], length, replicate, slice_get};
-ghost use Rattle.x10_stats.specs.Tallies.{activity_at, arrived, begun_from, empty_tally, gone_back, left, none_begun, noted, one_more, reaching, ready, stepped, taken_over, tally_at_first, with_activity, with_begun, with_room, with_steps};
+ghost use Rattle.x10_stats.specs.Tallies.{activity_at, arrived, begun_as, begun_from, empty_tally, gone_back, left, next_one, none_begun, noted, one_more, reaching, ready, stepped, taken_over, tally_at_first, with_activity, with_begun, with_known, with_next_room, with_room, with_rooms, with_steps};
 
 use crate::activity::{Activity, Row};
 use crate::sight::{Sight, pair_of, stay_at};
@@ -58,6 +58,12 @@ pub struct Tally {
     rows: Vec<Row>,
     /// By the number of a function.
     functions: Vec<Begun>,
+    /// By their own numbers, where all are kept.
+    all: Row,
+    /// The number that the next one gets.
+    next: usize,
+    /// Whether all are kept.
+    kept: bool,
 }
 
 impl Model for Tally {
@@ -65,7 +71,13 @@ impl Model for Tally {
 
     ghost Value = { TallyState };
 
-    ghost view = { λ a. record { rows = a.rows.items; functions = a.functions.items } };
+    ghost view = { λ a. record {
+      rows = a.rows.items;
+      functions = a.functions.items;
+      all = a.all;
+      next = a.next;
+      kept = a.kept;
+    } };
 }
 
 /// Places without activities.
@@ -94,14 +106,18 @@ impl Tally {
         alloc: Global,
         verified: &Verified,
         world: &World,
+        kept: bool,
     ) -> Result<Tally, AllocError>
-        ensures { IfOk result (λ tally. tally ≡ tally_at_first verified.now world.now) }
+        ensures { IfOk result (λ tally. tally ≡ tally_at_first verified.now kept world.now) }
     {
         let mut tally = Tally {
             rows: empty_rows(alloc, world.count())?,
             functions: no_functions(alloc, verified.image().functions())?,
+            all: Row::new(alloc),
+            next: 0,
+            kept,
         };
-        tally.make_room(0, 0)?;
+        tally.make_rooms(0, 0)?;
         tally.arrive(world, 0, 0);
         Ok(tally)
     }
@@ -111,6 +127,20 @@ impl Tally {
         ensures { result.now ≡ self.now.functions }
     {
         &self.functions
+    }
+
+    /// How many activities began.
+    pub(crate) fn count(&self) -> usize
+        ensures { result ≡ self.now.next }
+    {
+        self.next
+    }
+
+    /// The activity with a number, where it is kept.
+    pub(crate) fn find(&self, number: usize) -> Option<Activity>
+        ensures { result ≡ slice_get self.now.all number }
+    {
+        self.all.find(number)
     }
 
     /// Makes room for a stay with a key at a place. Constant time, but a list that grows is copied now and then.
@@ -124,12 +154,41 @@ impl Tally {
         self.rows[usize::from(place)].make_room(key)
     }
 
+    /// Makes room for the next activity, where all are kept.
+    fn make_next_room(&mut self) -> Result<(), AllocError>
+        ensures ok { OnOk result (self.new ≡ with_next_room self.old) }
+        ensures err { OnErr result (self.new ≡ self.old) }
+    {
+        if self.kept {
+            self.all.make_room(self.next)
+        } else {
+            Ok(())
+        }
+    }
+
+    /// Makes room for a stay with a key at a place, and for the activity that it may begin. Where there is no memory for both,
+    /// neither has room.
+    fn make_rooms(&mut self, place: u16, key: usize) -> Result<(), AllocError>
+        ensures ok { OnOk result (self.new ≡ with_rooms self.old place key) }
+        ensures err { OnErr result (self.new ≡ self.old) }
+    {
+        let count = self.all.len();
+        self.make_next_room()?;
+        match self.make_room(place, key) {
+            Ok(()) => Ok(()),
+            Err(fault) => {
+                self.all.shorten(count);
+                Err(fault)
+            }
+        }
+    }
+
     /// Makes room for what an event may begin.
     pub(crate) fn prepare(&mut self, sight: &Sight) -> Result<(), AllocError>
         ensures ok { OnOk result (self.new ≡ ready self.old sight.now) }
         ensures err { OnErr result (self.new ≡ self.old) }
     {
-        self.make_room(sight.place, sight.vacant)
+        self.make_rooms(sight.place, sight.vacant)
     }
 
     /// What an event did more, from what was seen before it, in the world right after it. Constant time; takes no memory.
@@ -176,8 +235,15 @@ impl Tally {
         self.set(place, key, activity);
     }
 
+    /// What an activity is now stands at its number, if it has room.
+    fn know(&mut self, activity: Activity)
+        ensures { self.new ≡ with_known self.old activity }
+    {
+        self.all.set(activity.number, activity);
+    }
+
     /// An activity more began with a function.
-    fn count(&mut self, function: usize)
+    fn add(&mut self, function: usize)
         ensures { self.new ≡ with_begun self.old function }
     {
         if function < self.functions.len() {
@@ -200,7 +266,30 @@ impl Tally {
     {
         let activity = self.activity(place, key).stepped();
         self.set(place, key, activity);
+        self.know(activity);
         self.reach(usize::from(activity.function), activity.steps);
+    }
+
+    /// The activity that begins next, at a place and with a function.
+    fn next_one(&self, place: u16, function: u16) -> Activity
+        ensures { result ≡ next_one self.now place function }
+    {
+        Activity {
+            number: self.next,
+            place,
+            function,
+            steps: 0,
+        }
+    }
+
+    /// An activity begins with the stay that has a key at a place.
+    fn begin_as(&mut self, place: u16, key: usize, first: Activity)
+        ensures { self.new ≡ begun_as self.old place key first }
+    {
+        self.set(place, key, first);
+        self.know(first);
+        self.next = self.next.saturating_add(1);
+        self.add(usize::from(first.function));
     }
 
     /// A stay that executes a function began with a key at a place, for the one that waits for it, if one does.
@@ -209,10 +298,7 @@ impl Tally {
     {
         match back {
             Some((from, waiting)) => self.take_over(place, key, from, waiting),
-            None => {
-                self.set(place, key, Activity { function, steps: 0 });
-                self.count(usize::from(function));
-            }
+            None => self.begin_as(place, key, self.next_one(place, function)),
         }
     }
 

@@ -104,6 +104,8 @@ pub struct Task<'a> {
     pub json: bool,
     /// Whether it is told what was in a run, besides what it prints. Only for `run` without threads.
     pub stats: bool,
+    /// Whether each activity is told there too. Only beside `stats`.
+    pub activities: bool,
     /// Whether more is said about a fault than its line.
     pub explain: bool,
     /// Whether that has colors.

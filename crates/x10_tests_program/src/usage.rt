@@ -30,6 +30,7 @@ fn words(rt: HostRuntime) -> Result<(), Fail> {
         threads: false,
         json: false,
         stats: false,
+        activities: false,
         explain: false,
         color: Color::Auto,
     };

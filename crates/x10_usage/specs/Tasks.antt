@@ -70,6 +70,11 @@ has_json verb.Run = true
 has_json verb.Audit = true
 has_json _ = false
 
+-- whether each activity is told: by a word that `list` and `trace` have too
+abbrev pub tells_activities : Verb → (is_verbose : Bool) → Bool
+tells_activities verb.Run is_verbose = is_verbose
+tells_activities _ is_verbose = false
+
 -- the commands that may have a log, with threads or without
 abbrev pub may_have_log : Verb → Bool → Bool
 may_have_log verb.Run threads = threads
@@ -101,6 +106,7 @@ pub record IsTask (t : Task) : Type 0 where
   pub seed : is_some t.seed ≡ true → t.schedule ≡ order.Random
   pub json : t.json ≡ true → has_json t.verb ≡ true
   pub stats : t.stats ≡ true → (t.verb ≡ verb.Run) × (t.threads ≡ false)
+  pub activities : t.activities ≡ true → t.stats ≡ true
   pub log : is_some t.log ≡ true → may_have_log t.verb t.threads ≡ true
   pub audit : t.verb ≡ verb.Audit → is_some t.log ≡ true
   pub logged : is_some t.log ≡ true → t.verb ≢ verb.Run
@@ -199,5 +205,6 @@ pub record IsReadFrom (explain : Bool) (m : ArgMatches) (t : Task) : Type 0 wher
   pub threads_is : IsFlagIn (one_text found (codes "threads")) t.threads
   pub json_is : IsFlagIn (one_text found (codes "json")) t.json
   pub stats_is : IsFlagIn (one_text found (codes "stats")) t.stats
+  pub activities_is : t.activities ≡ tells_activities t.verb is_verbose
   pub explain_is : t.explain ≡ explained_by (first_value found (codes "explain")) explain
   pub color_is : t.color ≡ color_named (first_value found (codes "color"))

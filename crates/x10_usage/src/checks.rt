@@ -137,11 +137,17 @@ fn json_is_for_few(task: &Task) -> bool
         )
 }
 
+/// What was in a run is told of one in this thread, and each activity only besides that.
 fn stats_are_for_run(task: &Task) -> bool
-    ensures { IsTrue result → task.now.stats ≡ true → (task.now.verb ≡ Verb.Run)
+    ensures stats { IsTrue result → task.now.stats ≡ true → (task.now.verb ≡ Verb.Run)
         × (task.now.threads ≡ false) }
+    ensures activities { IsTrue result → task.now.activities ≡ true → task.now.stats ≡ true }
 {
-    !task.stats || (matches!(task.verb, Verb::Run) && !task.threads)
+    if task.stats {
+        matches!(task.verb, Verb::Run) && !task.threads
+    } else {
+        !task.activities
+    }
 }
 
 /// An audit reads a log, a trace or a picture may be of one, and a run with threads may write one.

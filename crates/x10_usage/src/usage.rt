@@ -2,7 +2,7 @@
 ghost use Rattle.std.specs.Prelude.{◌≡◌, ◌≢◌, IfOk, IfErr, IfSome, IsTrue, option_map};
 ghost use Rattle.clap.specs.Matches.{found_of};
 ghost use Rattle.clap.specs.Words.{kind_of};
-ghost use Rattle.x10_usage.specs.Tasks.{IsReadFrom, IsTask, IsWindowFound, color_named, explained_by, schedule_named, verb_named};
+ghost use Rattle.x10_usage.specs.Tasks.{IsReadFrom, IsTask, IsWindowFound, color_named, explained_by, schedule_named, tells_activities, verb_named};
 ghost use Rattle.x10_usage.specs.Tasks as tasks;
 ghost use Rattle.x10_usage.specs.Usages.{IsAnswer, text_of};
 
@@ -137,6 +137,9 @@ fn why_not(task: &Task) -> &'static str {
     if task.seed.is_some() && task.schedule != Schedule::Random {
         return "--seed is for a random schedule alone";
     }
+    if task.activities && !task.stats {
+        return "--verbose is for a run with --stats alone";
+    }
     if task.log.is_some() && task.verb == Verb::Run {
         return "--log is for a run with --threads alone";
     }
@@ -155,8 +158,10 @@ fn task_in<'a>(matches: &ArgMatches<'a>, explain: bool) -> Option<Task<'a>>
     let (name, matches) = matches.subcommand()?;
     let seed = matches.get_one("seed");
     let output = matches.get_str("OUTPUT");
+    let is_verbose = matches.get_flag("verbose");
+    let verb = verb_of(name, is_verbose, is_page(output));
     Some(Task {
-        verb: verb_of(name, matches.get_flag("verbose"), is_page(output)),
+        verb,
         input: matches.get_str("INPUT")?,
         output,
         log: matches.get_str("LOG"),
@@ -169,6 +174,7 @@ fn task_in<'a>(matches: &ArgMatches<'a>, explain: bool) -> Option<Task<'a>>
         threads: matches.get_flag("threads"),
         json: matches.get_flag("json"),
         stats: matches.get_flag("stats"),
+        activities: tells_activities(verb, is_verbose),
         explain: is_explained(matches.get_str("explain"), explain),
         color: color_of(matches.get_str("color")),
     })
@@ -214,6 +220,13 @@ fn verb_of(name: &str, is_verbose: bool, is_page: bool) -> Verb
         "explain" => Verb::Explain,
         _ => Verb::Run,
     }
+}
+
+/// Whether a command tells of each activity.
+fn tells_activities(verb: Verb, is_verbose: bool) -> bool
+    ensures { result ≡ tells_activities verb is_verbose }
+{
+    is_verbose && matches!(verb, Verb::Run)
 }
 
 /// The schedule of a name; where none is given, rounds, or, where a seed is, a random one.

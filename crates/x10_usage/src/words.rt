@@ -154,7 +154,8 @@ fn run<'a>(alloc: Global) -> Result<Command<'a>, AllocError> {
         .arg(threads(alloc)?)?
         .arg(log(alloc)?)?
         .arg(json(alloc))?
-        .arg(stats(alloc)?)
+        .arg(stats(alloc)?)?
+        .arg(activities(alloc)?)
 }
 
 fn runs<'a>(alloc: Global) -> Result<Command<'a>, AllocError> {
@@ -272,6 +273,10 @@ fn stats<'a>(alloc: Global) -> Result<Arg<'a>, AllocError> {
         .help("Tell what was in the run, in lines on standard error; not with --threads")
         .action(ArgAction::SetTrue)
         .conflicts_with("threads")
+}
+
+fn activities<'a>(alloc: Global) -> Result<Arg<'a>, AllocError> {
+    verbose(alloc, "Tell of each activity in the run too; only with --stats").requires_arg("stats")
 }
 
 fn threads<'a>(alloc: Global) -> Result<Arg<'a>, AllocError> {

@@ -48,13 +48,13 @@ returns-clause-due w = λ c. due_unless c.print_events.result c.args.task.now.pl
 pub returns-clause-counted : goal.returns-clause-counted
 returns-clause-counted w = λ c.
     counts_left c.print_events.result c.args.task.now.places c.args.bytes.now c.in_ok-verified.verified c.in_ok-world.world c.args.task.now.limit
-    c.args.task.now.json (option_map string_bytes c.print_events.new.stats) (w.O.Write.contents c.args.out.now)
+    c.args.task.now.activities c.args.task.now.json (option_map string_bytes c.print_events.new.stats) (w.O.Write.contents c.args.out.now)
     (w.O.Write.contents c.print_events.new.out) c.in_ok-verified.ensures.found c.in_ok-world.ensures.opened c.print_events.ensures.ended
 
 pub returns-clause-stopped : goal.returns-clause-stopped
 returns-clause-stopped w = λ c.
     stops_left c.print_events.result c.args.task.now.places c.args.bytes.now c.in_ok-verified.verified c.in_ok-world.world c.args.task.now.limit
-    c.args.task.now.json (option_map string_bytes c.print_events.new.stats) (w.O.Write.contents c.args.out.now)
+    c.args.task.now.activities c.args.task.now.json (option_map string_bytes c.print_events.new.stats) (w.O.Write.contents c.args.out.now)
     (w.O.Write.contents c.print_events.new.out) c.in_ok-verified.ensures.found c.in_ok-world.ensures.opened c.print_events.ensures.stopped
 
 pub returns-clause-done : goal.returns-clause-done

@@ -16,15 +16,15 @@ pub returns-in-Err-clause-status : goal.returns-in-Err-clause-status
 returns-in-Err-clause-status w = λ c. status_told _ c.in-Err.fault c.refuse.ensures.status
 
 pub returns-in-Ok-clause-counted : goal.returns-in-Ok-clause-counted
-returns-in-Ok-clause-counted w = λ c. λ e. all_kept c.args.task.now.places c.args.bytes.now (CountsAll c.args.task.now.limit) c.args.task.now.json
+returns-in-Ok-clause-counted w = λ c. λ e. all_kept c.args.task.now.places c.args.bytes.now (CountsAll c.args.task.now.limit c.args.task.now.activities) c.args.task.now.json
     (option_map string_bytes c.print_counted-done.new.stats) (w.O.Write.contents c.args.out.now)
     (w.O.Write.contents c.print_counted-done.new.out) (w.O.Write.contents c.flush.new.self) c.in-Ok.ensures.counted c.flush.ensures.bytes
 
 pub returns-in-Ok-clause-printed : goal.returns-in-Ok-clause-printed
 returns-in-Ok-clause-printed w = λ c. λ e.
-    counts_printed c.args.task.now.places c.args.bytes.now c.args.task.now.limit c.args.task.now.json
+    counts_printed c.args.task.now.places c.args.bytes.now c.args.task.now.limit c.args.task.now.activities c.args.task.now.json
     (option_map string_bytes c.print_counted-done.new.stats) (w.O.Write.contents c.args.out.now) (w.O.Write.contents c.flush.new.self)
-    (all_kept c.args.task.now.places c.args.bytes.now (CountsAll c.args.task.now.limit) c.args.task.now.json
+    (all_kept c.args.task.now.places c.args.bytes.now (CountsAll c.args.task.now.limit c.args.task.now.activities) c.args.task.now.json
     (option_map string_bytes c.print_counted-done.new.stats) (w.O.Write.contents c.args.out.now)
     (w.O.Write.contents c.print_counted-done.new.out) (w.O.Write.contents c.flush.new.self) c.in-Ok.ensures.counted c.flush.ensures.bytes)
 
@@ -39,7 +39,7 @@ returns-in-Err-clause-left_refused w = λ c. λ s.
 pub returns-in-Err-clause-left_stopped : goal.returns-in-Err-clause-left_stopped
 returns-in-Err-clause-left_stopped w = λ c. λ s. (
   c.in-Err.fault,
-  some_kept c.args.task.now.places c.args.bytes.now c.args.task.now.limit c.in-Err.fault c.args.task.now.json
+  some_kept c.args.task.now.places c.args.bytes.now c.args.task.now.limit c.args.task.now.activities c.in-Err.fault c.args.task.now.json
       (option_map string_bytes c.print_counted-done.new.stats) (w.O.Write.contents c.args.out.now)
       (w.O.Write.contents c.print_counted-done.new.out) (w.O.Write.contents c.flush.new.self)
       (c.in-Err.ensures.stopped (same_status c.refuse.result 2 c.in-Err.fault c.refuse.ensures.status s (λ x. omega (arith, x))))

@@ -9,12 +9,12 @@ use Rattle.x10_usage.proofs.usage.task_in.Goals as goal
 pub returns : goal.returns
 returns c = record {
   name = c.in_ok-name.name.now;
-  is_verbose = c.get_flag.result;
+  is_verbose = c.get_flag-is_verbose.result;
   found = found_of c.in_ok-name.matches.now;
   name_is = sym c.in_ok-name.ensures.name;
   rows_are = sym c.in_ok-name.ensures.rows;
-  verbose_is = record { none = c.get_flag.ensures.none; yes = c.get_flag.ensures.value; no = c.get_flag.ensures.other };
-  verb_is = c.verb_of.ensures ∙ ap (λ p. verb_named c.in_ok-name.name.now c.get_flag.result p)
+  verbose_is = record { none = c.get_flag-is_verbose.ensures.none; yes = c.get_flag-is_verbose.ensures.value; no = c.get_flag-is_verbose.ensures.other };
+  verb_is = c.verb_of-verb.ensures ∙ ap (λ p. verb_named c.in_ok-name.name.now c.get_flag-is_verbose.result p)
       (c.is_page.ensures ∙ ap (λ o. is_page o) c.get_str-output.ensures);
   input_is = sym c.in_ok-get_str.ensures;
   output_is = c.get_str-output.ensures;
@@ -37,9 +37,10 @@ returns c = record {
       (λ bs r g. g.0) c.get_one-3.ensures.none c.get_one-3.ensures.value;
   seeds_is = c.unwrap_or-2.ensures;
   window_is = c.window_of.ensures;
-  threads_is = record { none = c.get_flag-2.ensures.none; yes = c.get_flag-2.ensures.value; no = c.get_flag-2.ensures.other };
-  json_is = record { none = c.get_flag-3.ensures.none; yes = c.get_flag-3.ensures.value; no = c.get_flag-3.ensures.other };
-  stats_is = record { none = c.get_flag-4.ensures.none; yes = c.get_flag-4.ensures.value; no = c.get_flag-4.ensures.other };
+  threads_is = record { none = c.get_flag.ensures.none; yes = c.get_flag.ensures.value; no = c.get_flag.ensures.other };
+  json_is = record { none = c.get_flag-2.ensures.none; yes = c.get_flag-2.ensures.value; no = c.get_flag-2.ensures.other };
+  stats_is = record { none = c.get_flag-3.ensures.none; yes = c.get_flag-3.ensures.value; no = c.get_flag-3.ensures.other };
+  activities_is = c.tells_activities.ensures;
   explain_is = c.is_explained.ensures ∙ ap (λ o. explained_by o c.args.explain) c.get_str-4.ensures;
   color_is = c.color_of.ensures ∙ ap (λ o. color_named o) c.get_str-5.ensures;
 }
