@@ -8,6 +8,7 @@
 ; 0: 1
 ; status 2: turns
 ; > --limit permits 2000 turns of workers, and a worker had one more. In a turn a worker takes in 16 frames and makes 64 steps at most.
+; > With --log LOG it is told too who lives after the turns in the log.
 ; $ x10p run endless.x10 --limit 100
 ; 0: 1
 ; status 2: limit

@@ -12,6 +12,14 @@
 ; 0: 3
 ; status 2: stop: Limit 7
 ; > There may be 1048576 objects in one frame at most, and the next event would make one more.
+; > With --log LOG it is told too who lives after the turns in the log.
+; $ x10p run limit_of_a_frame.x10 --threads --log limit_of_a_frame.log --explain
+; 0: 3
+; status 2: stop: Limit 7
+; > There may be 1048576 objects in one frame at most, and the next event would make one more.
+; > Who lives after the turns in the log:
+; >   main at place 0: function 1, instruction 5 (NEW)
+; > Activities that can move: 1 of 1.
 places 2
 class opt:0
 int 3

@@ -15,7 +15,7 @@ use x10_task::{Task, Verb};
 use x10_verify::{VerifyCause, VerifyFault};
 
 /// Sentences on a fault of a task over the bytes of its file, a line each; none where there is nothing to add. Where they were
-/// assembled from a text, its lines are named. The log is an audit's, else empty.
+/// assembled from a text, its lines are named. The log is the one that is read, or that a run with threads leaves; else empty.
 pub(crate) fn explanation(
     alloc: Global,
     task: &Task,
@@ -26,8 +26,8 @@ pub(crate) fn explanation(
 ) -> Result<String, AllocError> {
     let text = of_fault(alloc, task, bytes, source, log, fault)?;
     match fault {
-        Fault::StopMemory | Fault::StopLimit(_) | Fault::Limit => {
-            with_end(alloc, text, task, bytes, source, fault)
+        Fault::StopMemory | Fault::StopLimit(_) | Fault::Limit | Fault::Turns => {
+            with_end(alloc, text, task, bytes, source, log, fault)
         }
         _ => Ok(text),
     }

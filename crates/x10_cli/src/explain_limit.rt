@@ -1,18 +1,30 @@
 //! What is said where a run ends early: at its limit, or where the machine stops. Who lives then, and how many events were idle.
 
+use crate::audited::world_again;
 use crate::commands::{opened, verified_in};
 use crate::fault::Fault;
+use crate::log_events::LogEvents;
+use crate::log_shown::skip_turns;
 use crate::schedule::schedule_of;
 use std::alloc::{AllocError, Global};
 use x10_bounds::bounds;
 use x10_explain::Source;
 use x10_image::ImageView;
+use x10_log::read_log;
 use x10_schedule::run_by;
 use x10_stats::{Counts, count_run};
 use x10_survey::survey;
 use x10_task::Task;
 use x10_verify::Verified;
 use x10_world::{Unfinished, World};
+
+/// How it begins what is said of those who live in a world.
+const THEN: &str = "Who lives then:\n";
+
+const AFTER_LOG: &str = "Who lives after the turns in the log:\n";
+
+/// What is said of a run with threads that isn't logged.
+const NOT_LOGGED: &str = "With --log LOG it is told too who lives after the turns in the log.\n";
 
 /// The most events of a run that is made once more event by event, so that its idle ones are counted.
 const MOST_COUNTED: u64 = 10_000_000;
@@ -25,26 +37,69 @@ struct Share {
 }
 
 /// A text with what there is to say of the end of a run, which the fault tells: the share of idle events, and who lives then. The
-/// run is made once more for that, by the same schedule, so it goes the same way. Nothing comes behind the text where it
-/// doesn't end so again, as where memory was refused only once, or where there is no memory; nor of a run with threads, or one
-/// in a log.
+/// run is made once more for that, by the same schedule, so it goes the same way; of a run with threads the turns in its log.
+/// Nothing comes behind the text where it doesn't end so again, as where memory was refused only once, or where there is no
+/// memory; nor of a run in a log that is read.
 pub(crate) fn with_end(
     alloc: Global,
     text: String,
     task: &Task,
     bytes: &[u8],
     source: Option<&str>,
+    log: &[u8],
     fault: Fault,
 ) -> Result<String, AllocError> {
-    let mut text = text;
-    if task.threads || task.log.is_some() {
+    let end = if task.threads {
+        threads_end(alloc, task, bytes, source, log)
+    } else if task.log.is_some() {
         return Ok(text);
-    }
-    if let Ok(end) = end_of(alloc, task, bytes, source, fault) {
+    } else {
+        end_of(alloc, task, bytes, source, fault)
+    };
+    let mut text = text;
+    if let Ok(end) = end {
         // where it is refused memory, the text is as it was
         _ = text.push_str(end.as_str());
     }
     Ok(text)
+}
+
+/// The lines on the end of a run with threads: who lives after the turns in its log.
+fn threads_end(
+    alloc: Global,
+    task: &Task,
+    bytes: &[u8],
+    source: Option<&str>,
+    log: &[u8],
+) -> Result<String, AllocError> {
+    if task.log.is_none() {
+        return String::from_str(alloc, NOT_LOGGED);
+    }
+    let Ok(verified) = verified_in(alloc, bytes) else {
+        return Err(AllocError);
+    };
+    let Ok(world) = world_after(alloc, &verified, log) else {
+        return Err(AllocError);
+    };
+    let mut text = String::from_str(alloc, AFTER_LOG)?;
+    push_living(alloc, &mut text, &verified, &world, source)?;
+    Ok(text)
+}
+
+/// The world after the turns of a log.
+fn world_after<'a>(
+    alloc: Global,
+    verified: &'a Verified<'a>,
+    log: &[u8],
+) -> Result<World<'a>, Fault> {
+    let Ok(text) = str::from_utf8(log) else {
+        return Err(Fault::File);
+    };
+    let read = read_log(alloc, text)?;
+    let mut world = world_again(alloc, verified, read.places)?;
+    let mut events = LogEvents::new(&read.turns);
+    skip_turns(&mut events, &mut world, u64::MAX)?;
+    Ok(world)
 }
 
 /// The lines on the end of a run.
@@ -79,7 +134,7 @@ fn counted_end(
         return Ok(None);
     };
     let Share { idle, events } = share;
-    let mut text = format!(in alloc; "Idle events: {idle} of {events}.\n")?;
+    let mut text = format!(in alloc; "Idle events: {idle} of {events}.\n{THEN}")?;
     push_living(alloc, &mut text, verified, &world, source)?;
     Ok(Some(text))
 }
@@ -96,7 +151,7 @@ fn made_end(
         return Err(AllocError);
     };
     remake(alloc, task, &mut world, fault)?;
-    let mut text = String::new(alloc);
+    let mut text = String::from_str(alloc, THEN)?;
     push_living(alloc, &mut text, verified, &world, source)?;
     Ok(text)
 }
@@ -143,7 +198,6 @@ fn push_living(
     world: &World,
     source: Option<&str>,
 ) -> Result<(), AllocError> {
-    text.push_str("Who lives then:\n")?;
     let living = match source {
         Some(source) => {
             let source = Source::read(alloc, source)?;

@@ -117,7 +117,11 @@ fn show_log<'a, O: Write>(
 }
 
 /// Makes so many of some events without showing them, unless there are fewer, and answers how many there were.
-fn skip_turns(events: &mut LogEvents, world: &mut World, count: u64) -> Result<u64, Fault>
+pub(crate) fn skip_turns(
+    events: &mut LogEvents,
+    world: &mut World,
+    count: u64,
+) -> Result<u64, Fault>
     requires { world.old.stopped ≢ true }
     ensures skips { IfOk result (λ n. (made : List Event) × Skips world.old made world.new
         × (length made ≡ n) × (made ++ events.new ≡ events.old)) }

@@ -55,7 +55,15 @@ pub fn run_logged<R: Threads + Wait + Sync, O: Write, E: Write>(
     }
     match done {
         Ok(()) => 0,
-        Err(fault) => refuse(alloc, task, bytes, source, b"", fault, err),
+        Err(fault) => refuse(alloc, task, bytes, source, bytes_of(log), fault, err),
+    }
+}
+
+/// The bytes of a text, if there is one.
+fn bytes_of(text: &Option<String>) -> &[u8] {
+    match text {
+        Some(text) => text.as_bytes(),
+        None => b"",
     }
 }
 
