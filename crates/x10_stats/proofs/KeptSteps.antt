@@ -1,6 +1,6 @@
 -- No activity that is kept has made more steps than the most of its function.
-use Rattle.std.proofs.Common.{◌≡◌, ℕ, ◌≤◌, Bool, true, false, List, [], Option, Some, None, refl, sym, ap, subst, ◌∙◌, inl, inr, arith}
-use Rattle.std.specs.Prelude.{All, max, slice_get, slice_set}
+use Rattle.std.proofs.Common.{◌≡◌, ℕ, ◌≤◌, Bool, true, false, List, Option, Some, None, refl, sym, ap, subst, ◌∙◌, inl, inr, arith}
+use Rattle.std.specs.Prelude.{All, slice_get, slice_set}
 use Rattle.std.proofs.lemmas.List.Elements.{All-append, All-nil, All-replicate, All-set, All-weaker}
 use Rattle.std.proofs.lemmas.Option.{same_Some}
 use Rattle.x10_model.specs.declared.event.Event.{Event}
@@ -103,8 +103,10 @@ left_within t place key back (Some s) within = within
 
 event_within : (s : CountsState) (x : WorldState) (event : Event) (did : Done) (y : WorldState) → AreWithin s.tally
     → AreWithin (counted_with s x event did y).tally
-event_within s x event done.Idle y within = rooms_within s.tally _ _ within
-event_within s x event (done.Taken to) y within = by_within (ready s.tally (sight_of x event)) _ _ _ (rooms_within s.tally _ _ within)
+event_within s x event done.Idle y within = rooms_within s.tally (sight_of x event).place (sight_of x event).vacant within
+event_within s x event (done.Taken to) y within =
+    let see : Sight = sight_of x event in
+    by_within (ready s.tally see) see.place see.vacant (stay_at y see.place see.vacant) (rooms_within s.tally see.place see.vacant within)
 event_within s x event (done.Moved function pc op first count) y within =
     let see : Sight = sight_of x event in
     let moved : TallyState = stepped (ready s.tally see) see.place see.key in
