@@ -276,7 +276,11 @@ fn stats<'a>(alloc: Global) -> Result<Arg<'a>, AllocError> {
 }
 
 fn activities<'a>(alloc: Global) -> Result<Arg<'a>, AllocError> {
-    verbose(alloc, "Tell of each activity in the run too; only with --stats").requires_arg("stats")
+    verbose(
+        alloc,
+        "Tell of each activity in the run too; only with --stats",
+    )
+    .requires_arg("stats")
 }
 
 fn threads<'a>(alloc: Global) -> Result<Arg<'a>, AllocError> {
