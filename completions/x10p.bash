@@ -52,7 +52,7 @@ _x10p_has() {
         arguments=('words Word Number Count Order Label Text Limit Entry Nesting Jump LoopSlot CallOrder Atomic TooLarge Index Unset Kind Home Result places turns file usage thread refused differs open Memory Short Magic Version Reserved Code Trailing Head Image Place Taken Key Frame Printed Spelling Ending FrameType Tag')
         ;;
     run)
-        options=(--places --limit --schedule --seed --explain --color --threads --log --json --stats -h --help)
+        options=(--places --limit --schedule --seed --explain --color --threads --log --json --stats --verbose -h --help)
         values=([--places]='nothing' [--limit]='nothing' [--schedule]='words rounds random oldest newest' [--seed]='nothing' [--explain]='words yes no' [--color]='words auto always never' [--log]='files log')
         optional=(--explain)
         arguments=('files asm x10')
