@@ -48,6 +48,21 @@ pub(crate) fn program<'a>(alloc: Global, rt: &impl Abort, bytes: &'a [u8]) -> Op
     verified(alloc, rt, viewed(alloc, rt, bytes)?)
 }
 
+/// What a test does with the program of a text. Nothing where memory was refused. (A check grows with the values that are dropped
+/// times the ways to return: so a program is held here, and a test has none.)
+pub(crate) fn with_program<F: FnOnce(&Verified) -> Option<()>>(
+    alloc: Global,
+    rt: &impl Abort,
+    text: &str,
+    test: F,
+) -> Option<()>
+    requires { F.IsAlwaysCallable test }
+{
+    let bytes = assembled(alloc, rt, text)?;
+    let verified = program(alloc, rt, &bytes)?;
+    test(&verified)
+}
+
 /// Whether lines are the first ones of these numbers; where all are asked for, all of them.
 pub(crate) fn are_first(lines: &[Line], numbers: &[i64], all: bool) -> bool {
     if lines.len() > numbers.len() || (all && lines.len() < numbers.len()) {

@@ -1,6 +1,6 @@
 //! Frames with one byte changed, and proper beginnings of frames: each is refused with the place as it was, or taken in, after
 //! which the place goes on.
-use crate::begin::{assembled, program};
+use crate::begin::{assembled, program, with_program};
 use std::alloc::Global;
 use std::process::Abort;
 use std::test::*;
@@ -64,6 +64,11 @@ const COUNTED: Arrival = Arrival {
     steps: 3,
 };
 
+/// Whether the first activity of a place makes so many steps.
+fn makes(place: &mut Place, steps: u64) -> bool {
+    matches!(place.run(0, steps), (made, Ok(_)) if made == steps)
+}
+
 /// A place that waits for a frame.
 fn waiting<'a>(alloc: Global, verified: &'a Verified<'a>, arrival: &Arrival) -> Option<Place<'a>> {
     let Arrival {
@@ -76,10 +81,7 @@ fn waiting<'a>(alloc: Global, verified: &'a Verified<'a>, arrival: &Arrival) -> 
         return None;
     }
     let mut place = Place::new(alloc, verified, place, places).ok()?;
-    match place.run(0, steps) {
-        (made, Ok(_)) if made == steps => Some(place),
-        _ => None,
-    }
+    makes(&mut place, steps).then_some(place)
 }
 
 /// What can be seen of a place from outside: where its first activities stand, and how many lines it has.
@@ -137,6 +139,18 @@ fn is_taken(rt: &impl Abort, place: &mut Place, frame: &[u8], right: &[u8]) -> b
     false
 }
 
+/// Whether a new place that waits takes a frame in; none where no place waits.
+fn is_taken_anew<'a>(
+    alloc: Global,
+    rt: &impl Abort,
+    verified: &'a Verified<'a>,
+    arrival: &Arrival,
+    frame: &[u8],
+) -> Option<bool> {
+    let mut place = waiting(alloc, verified, arrival)?;
+    Some(is_taken(rt, &mut place, frame, arrival.frame))
+}
+
 /// A frame with each value in place of one byte: how many of them are taken in.
 fn taken_at<'a>(
     alloc: Global,
@@ -151,8 +165,8 @@ fn taken_at<'a>(
         if let Some(byte) = frame.get_mut(at) {
             *byte = value;
         }
-        let mut place = waiting(alloc, verified, arrival).ok_or("the place waits")?;
-        if is_taken(rt, &mut place, frame, arrival.frame) {
+        let is_taken = is_taken_anew(alloc, rt, verified, arrival, frame);
+        if is_taken.ok_or("the place waits")? {
             taken = taken.saturating_add(1);
         }
     }
@@ -210,18 +224,25 @@ fn report(rt: HostRuntime) -> Result<(), Fail> {
     Ok(())
 }
 
-/// Each proper beginning of a frame is `Short`.
-fn are_short(alloc: Global, rt: &impl Abort, text: &str, arrival: &Arrival) -> Result<(), Fail> {
-    let bytes = assembled(alloc, rt, text).ok_or("there is memory")?;
-    let verified = program(alloc, rt, &bytes).ok_or("there is memory")?;
-    let mut place = waiting(alloc, &verified, arrival).ok_or("the place waits")?;
-    let (before, short) = (seen(&place), Some(Refusal::Frame(FrameFault::Short)));
-    for length in 0..arrival.frame.len() {
-        assert!(rt; refusal(&mut place, &arrival.frame[..length]) == short);
-        assert!(rt; seen(&place) == before);
+/// Whether each proper beginning of a frame is `Short` for a place that waits, which then takes the frame in.
+fn is_short_for(place: &mut Place, frame: &[u8]) -> bool {
+    let (before, short) = (seen(place), Some(Refusal::Frame(FrameFault::Short)));
+    for length in 0..frame.len() {
+        if refusal(place, &frame[..length]) != short || seen(place) != before {
+            return false;
+        }
     }
-    assert!(rt; refusal(&mut place, arrival.frame).is_none());
-    Ok(())
+    refusal(place, frame).is_none()
+}
+
+/// The same for a place of a program.
+fn are_short(alloc: Global, rt: &impl Abort, text: &str, arrival: &Arrival) -> Result<(), Fail> {
+    let tried = with_program(alloc, rt, text, |verified| {
+        let mut place = waiting(alloc, verified, arrival)?;
+        assert!(rt; is_short_for(&mut place, arrival.frame));
+        Some(())
+    });
+    Ok(tried.ok_or("a place waits")?)
 }
 
 #[test]

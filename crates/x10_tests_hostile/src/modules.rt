@@ -42,12 +42,18 @@ fn has_bounds(alloc: Global, rt: &impl Abort, view: &ImageView) -> Option<bool> 
     }
 }
 
+/// The listing of a module is the text. Nothing where memory was refused.
+fn is_listed(alloc: Global, rt: &impl Abort, view: &ImageView) -> Option<()> {
+    let listing = list(alloc, view).ok()?;
+    assert!(rt; listing.as_str() == TEXT);
+    Some(())
+}
+
 /// A text is assembled, and its image read, listed, bounded and verified. Nothing where memory was refused.
 fn is_read(alloc: Global, rt: &impl Abort) -> Option<()> {
     let bytes = assembled(alloc, rt, TEXT)?;
     let view = viewed(alloc, rt, &bytes)?;
-    let listing = list(alloc, &view).ok()?;
-    assert!(rt; listing.as_str() == TEXT);
+    is_listed(alloc, rt, &view)?;
     assert!(rt; has_bounds(alloc, rt, &view)?);
     verified(alloc, rt, view)?;
     Some(())

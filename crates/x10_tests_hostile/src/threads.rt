@@ -1,5 +1,5 @@
 //! Halls and workers where memory is refused: what was posted stays, and nothing else is told.
-use crate::begin::{assembled, have_first, program};
+use crate::begin::{have_first, with_program};
 use std::alloc::{AllocError, Global};
 use std::process::Abort;
 use std::sync::{Arc, Wait};
@@ -86,37 +86,56 @@ fn turns(hall: &Hall) -> usize {
     hall.log().len()
 }
 
-/// Two turns are posted, the second one twice, of which a later one may be refused: then the log, the rows and what was taken of them are as before.
-fn are_posted(alloc: Global, rt: &impl Abort) -> Option<()> {
-    let mut hall = Hall::new(alloc, 2).ok()?;
-    let first = turn_to(alloc, &[1, 0, 1]).ok()?;
-    let second = turn_to(alloc, &[1, 0]).ok()?;
-    if !is_posted(rt, &mut hall, first) {
-        assert!(rt;
-            turns(&hall) == 0
-                && taken(&mut hall, 0) == [None; 4]
-                && taken(&mut hall, 1) == [None; 4]
-        );
+/// Whether these are the next frames for places 1 and 0.
+fn are_next(hall: &mut Hall, to_1: [Option<u64>; 4], to_0: [Option<u64>; 4]) -> bool {
+    taken(hall, 1) == to_1 && taken(hall, 0) == to_0
+}
+
+/// A first turn is posted, and its first frame taken; or it is refused, and there is nothing. Nothing where memory was refused.
+fn post_first(alloc: Global, rt: &impl Abort, hall: &mut Hall) -> Option<()> {
+    let turn = turn_to(alloc, &[1, 0, 1]).ok()?;
+    if !is_posted(rt, hall, turn) {
+        assert!(rt; turns(hall) == 0 && are_next(hall, [None; 4], [None; 4]));
         return None;
     }
     assert!(rt; hall.take(1).map(|frame| frame.number) == Some(0));
-    if !is_posted(rt, &mut hall, second) {
-        assert!(rt; turns(&hall) == 1);
-        assert!(rt; taken(&mut hall, 1) == [Some(2), None, None, None]);
-        assert!(rt; taken(&mut hall, 0) == [Some(1), None, None, None]);
-        return None;
-    }
-    assert!(rt; turns(&hall) == 2);
-    assert!(rt; taken(&mut hall, 1) == [Some(2), Some(3), None, None]);
-    assert!(rt; taken(&mut hall, 0) == [Some(1), Some(4), None, None]);
-    if !is_posted_again(rt, &mut hall) {
-        assert!(rt; turns(&hall) == 2 && taken(&mut hall, 1) == [None; 4]);
-        return None;
-    }
-    assert!(rt; turns(&hall) == 3);
-    assert!(rt; taken(&mut hall, 1) == [Some(5), None, None, None]);
-    assert!(rt; taken(&mut hall, 0) == [Some(6), None, None, None]);
     Some(())
+}
+
+/// The same of a second turn; where it is refused, the frames of the first one are still there.
+fn post_second(alloc: Global, rt: &impl Abort, hall: &mut Hall) -> Option<()> {
+    let turn = turn_to(alloc, &[1, 0]).ok()?;
+    if !is_posted(rt, hall, turn) {
+        let (to_1, to_0) = ([Some(2), None, None, None], [Some(1), None, None, None]);
+        assert!(rt; turns(hall) == 1 && are_next(hall, to_1, to_0));
+        return None;
+    }
+    let (to_1, to_0) = (
+        [Some(2), Some(3), None, None],
+        [Some(1), Some(4), None, None],
+    );
+    assert!(rt; turns(hall) == 2 && are_next(hall, to_1, to_0));
+    Some(())
+}
+
+/// The same of the second turn once more.
+fn post_again(rt: &impl Abort, hall: &mut Hall) -> Option<()> {
+    if !is_posted_again(rt, hall) {
+        assert!(rt; turns(hall) == 2 && are_next(hall, [None; 4], [None; 4]));
+        return None;
+    }
+    let (to_1, to_0) = ([Some(5), None, None, None], [Some(6), None, None, None]);
+    assert!(rt; turns(hall) == 3 && are_next(hall, to_1, to_0));
+    Some(())
+}
+
+/// Two turns are posted, the second one twice, of which a later one may be refused: then the log, the rows and what was taken of
+/// them are as before.
+fn are_posted(alloc: Global, rt: &impl Abort) -> Option<()> {
+    let mut hall = Hall::new(alloc, 2).ok()?;
+    post_first(alloc, rt, &mut hall)?;
+    post_second(alloc, rt, &mut hall)?;
+    post_again(rt, &mut hall)
 }
 
 /// What the worker of the only place keeps. Nothing where memory was refused.
@@ -155,16 +174,19 @@ fn prints_five(
 }
 
 /// The only worker's turns are compared with its log. Nothing where memory was refused.
-fn is_woven<R: Wait + Abort>(alloc: Global, rt: &R) -> Option<()> {
-    let bytes = assembled(alloc, rt, OWN)?;
-    let verified = program(alloc, rt, &bytes)?;
+fn weaves<R: Wait + Abort>(alloc: Global, rt: &R, verified: &Verified) -> Option<()> {
     let mail = Mail::new(alloc, 1, 1_000).ok()?;
-    let trail = worked(rt, alloc, &verified, &Desk::new(rt, &mail))?;
+    let trail = worked(rt, alloc, verified, &Desk::new(rt, &mail))?;
     let mut trails = Vec::new(alloc);
     trails.push(trail).ok()?;
     let log = mail.into_hall().into_log();
     assert!(rt; prints_five(alloc, rt, &log, &trails)?);
     Some(())
+}
+
+/// The same from a text on.
+fn is_woven<R: Wait + Abort>(alloc: Global, rt: &R) -> Option<()> {
+    with_program(alloc, rt, OWN, |verified| weaves(alloc, rt, verified))
 }
 
 /// How many lines the turns of a log have.
@@ -201,10 +223,12 @@ fn lacked_memory(fault: &WorkFault) -> bool {
 }
 
 /// A run with a thread for each of four places. Nothing where memory was refused.
-fn runs<R: Threads + Wait + Sync + Abort>(alloc: Global, rt: &R) -> Option<()> {
-    let bytes = assembled(alloc, rt, RELAY)?;
-    let verified = program(alloc, rt, &bytes)?;
-    match run_threads(rt, alloc, &verified, 4, 1_000, &Open) {
+fn relays<R: Threads + Wait + Sync + Abort>(
+    alloc: Global,
+    rt: &R,
+    verified: &Verified,
+) -> Option<()> {
+    match run_threads(rt, alloc, verified, 4, 1_000, &Open) {
         Ok(report) => {
             assert!(rt; have_first(&report.outputs, &PRINTS, true) && is_beginning(&report));
             Some(())
@@ -214,6 +238,11 @@ fn runs<R: Threads + Wait + Sync + Abort>(alloc: Global, rt: &R) -> Option<()> {
             None
         }
     }
+}
+
+/// The same from a text on.
+fn runs<R: Threads + Wait + Sync + Abort>(alloc: Global, rt: &R) -> Option<()> {
+    with_program(alloc, rt, RELAY, |verified| relays(alloc, rt, verified))
 }
 
 #[test]

@@ -1,5 +1,5 @@
 //! Places and worlds where memory is refused: nothing changes any more, and what was printed is a beginning.
-use crate::begin::{assembled, have_first, program};
+use crate::begin::{assembled, have_first, with_program};
 use crate::programs::{COPIED, LOOPS};
 use std::alloc::Global;
 use std::process::Abort;
@@ -118,33 +118,63 @@ fn is_stopped(world: &mut World) -> bool {
     world.run(&[]) == Err(Stop::Stopped) && world.event(ROUND[3]).err() == Some(Stop::Stopped)
 }
 
-/// The same run by calls of a world. After a stop it takes no event, and what was printed is a beginning.
-fn runs(alloc: Global, rt: &impl Abort, row: &Row) -> Option<()> {
-    let bytes = assembled(alloc, rt, row.text)?;
-    let verified = program(alloc, rt, &bytes)?;
-    let mut world = opened(alloc, rt, &verified, row.places)?;
+/// The lines of a world are the first ones of a program's, or all of them. Nothing where memory was refused.
+fn prints(alloc: Global, rt: &impl Abort, world: &World, row: &Row, all: bool) -> Option<()> {
+    let outputs = world.outputs(alloc).ok()?;
+    assert!(rt; have_first(&outputs, row.prints, all));
+    Some(())
+}
+
+/// The events happen in a world. After a stop it takes no event, and what was printed is a beginning.
+fn goes(alloc: Global, rt: &impl Abort, world: &mut World, row: &Row) -> Option<()> {
     let events = rounds(alloc)?;
     let why = world.run(&events).err();
-    let outputs = world.outputs(alloc).ok()?;
-    assert!(rt; have_first(&outputs, row.prints, why.is_none()));
+    prints(alloc, rt, world, row, why.is_none())?;
     if why.is_none() {
         assert!(rt; world.closed());
         return Some(());
     }
-    assert!(rt; why == Some(Stop::Memory) && is_stopped(&mut world));
+    assert!(rt; why == Some(Stop::Memory) && is_stopped(world));
     None
 }
 
+/// What a test does in a new world of a program.
+fn in_world<F: FnOnce(&mut World) -> Option<()>>(
+    alloc: Global,
+    rt: &impl Abort,
+    verified: &Verified,
+    places: u16,
+    test: F,
+) -> Option<()>
+    requires { F.IsAlwaysCallable test }
+{
+    let mut world = opened(alloc, rt, verified, places)?;
+    test(&mut world)
+}
+
+/// The same run by calls of a world.
+fn runs(alloc: Global, rt: &impl Abort, row: &Row) -> Option<()> {
+    with_program(alloc, rt, row.text, |verified| {
+        in_world(alloc, rt, verified, row.places, |world| {
+            goes(alloc, rt, world, row)
+        })
+    })
+}
+
 /// The lines of the first event: main makes an object. Nothing where memory was refused.
-fn is_traced(alloc: Global, rt: &impl Abort) -> Option<()> {
-    let bytes = assembled(alloc, rt, ALONG)?;
-    let verified = program(alloc, rt, &bytes)?;
-    let mut world = opened(alloc, rt, &verified, 2)?;
+fn traces(alloc: Global, rt: &impl Abort, world: &mut World) -> Option<()> {
     let event = Event::Step(0, 0);
     let done = world.event(event).ok()?;
-    let line = trace_line(alloc, &world, event, &done).ok()?;
+    let line = trace_line(alloc, world, event, &done).ok()?;
     assert!(rt; line.as_str() == "S 0 0 1 0 NEW\n");
     Some(())
+}
+
+/// The same from a text on.
+fn is_traced(alloc: Global, rt: &impl Abort) -> Option<()> {
+    with_program(alloc, rt, ALONG, |verified| {
+        in_world(alloc, rt, verified, 2, |world| traces(alloc, rt, world))
+    })
 }
 
 /// Whether nothing is at a place, and nothing was printed.
@@ -169,7 +199,7 @@ fn takes(rt: &impl Abort, place: &mut Place) -> Option<()> {
     None
 }
 
-/// Place 1 of two. Nothing where memory was refused.
+/// A new place 1 of two.
 fn second<'a>(alloc: Global, verified: &'a Verified<'a>) -> Option<Place<'a>> {
     if verified.image().least() > 2 {
         return None;
@@ -177,12 +207,12 @@ fn second<'a>(alloc: Global, verified: &'a Verified<'a>) -> Option<Place<'a>> {
     Place::new(alloc, verified, 1, 2).ok()
 }
 
-/// The same from a text on.
+/// The same from a text on. Nothing where memory was refused.
 fn is_taken_in(alloc: Global, rt: &impl Abort) -> Option<()> {
-    let bytes = assembled(alloc, rt, ALONG)?;
-    let verified = program(alloc, rt, &bytes)?;
-    let mut place = second(alloc, &verified)?;
-    takes(rt, &mut place)
+    with_program(alloc, rt, ALONG, |verified| {
+        let mut place = second(alloc, verified)?;
+        takes(rt, &mut place)
+    })
 }
 
 #[test]

@@ -53,20 +53,33 @@ fn sender(alloc: Global) -> Result<Tally, Stop> {
     Ok(tally)
 }
 
-/// Whether the book balances after each of some reports, in an order.
-fn balances(rt: &impl Abort, alloc: Global, order: &[usize]) -> Result<Vec<bool>, Fail> {
-    let tally = sender(alloc)?;
-    let mut book = Book::open(alloc, FINISH, 3)?;
-    assert!(rt; answers(&book, &tally) == (false, false));
-    let reports = reports(alloc)?;
-    let mut after = Vec::new(alloc);
+/// The book takes in some reports, in an order; whether it balances after each.
+fn merged(
+    rt: &impl Abort,
+    tally: &Tally,
+    book: &mut Book,
+    reports: &[Report],
+    order: &[usize],
+    after: &mut Vec<bool>,
+) -> Result<(), AllocError> {
+    assert!(rt; answers(book, tally) == (false, false));
     for i in order {
-        assert!(rt; *i < 3);
-        take(rt, &mut book, &reports[*i]);
-        let (balanced, done) = answers(&book, &tally);
-        assert!(rt; done == balanced && answers(&book, &tally) == (balanced, done));
+        assert!(rt; *i < reports.len());
+        take(rt, book, &reports[*i]);
+        let (balanced, done) = answers(book, tally);
+        assert!(rt; done == balanced && answers(book, tally) == (balanced, done));
         after.push(balanced)?;
     }
+    Ok(())
+}
+
+/// Whether the home's book balances after each of some reports, in an order.
+fn balances(rt: &impl Abort, alloc: Global, order: &[usize]) -> Result<Vec<bool>, Fail> {
+    let tally = sender(alloc)?;
+    let reports = reports(alloc)?;
+    let mut book = Book::open(alloc, FINISH, 3)?;
+    let mut after = Vec::new(alloc);
+    merged(rt, &tally, &mut book, &reports, order, &mut after)?;
     book.close();
     Ok(after)
 }
@@ -294,29 +307,60 @@ fn opens(alloc: Global) -> bool {
     }
 }
 
-/// A finish that ended leaves nothing behind in the memory that the next one takes: neither counts nor reports. Nor where that is
-/// a finish of fewer or more places.
-#[test]
-fn memory_is_used_again(rt: HostRuntime) -> Result<(), Fail> {
-    let alloc = rt.alloc();
-    let next = Finish { home: 0, number: 2 };
-    let mut tally = sender(alloc)?;
+/// The finish after the first.
+const NEXT: Finish = Finish { home: 0, number: 2 };
+
+/// The finish ends, and the next one takes its counts, of which nothing is left.
+fn counts_again(rt: &impl Abort, tally: &mut Tally) -> Result<(), Stop> {
     tally.began(FINISH)?;
     assert!(rt; 2 < tally.places());
     tally.came(FINISH, 2)?;
     tally.forget(FINISH);
-    tally.meet(next)?;
-    assert!(rt; tally.totals(next).0 == 0 && tally.totals(FINISH).1.is_empty());
-    assert!(rt; tally.sent(next) == [0, 0, 0].as_slice());
-    assert!(rt; tally.received(next) == [0, 0, 0].as_slice());
+    tally.meet(NEXT)?;
+    assert!(rt; tally.totals(NEXT).0 == 0 && tally.totals(FINISH).1.is_empty());
+    assert!(rt; tally.sent(NEXT) == [0, 0, 0].as_slice());
+    assert!(rt; tally.received(NEXT) == [0, 0, 0].as_slice());
+    Ok(())
+}
+
+/// A finish that ended leaves nothing behind in the counts that the next one takes.
+#[test]
+fn counts_are_used_again(rt: HostRuntime) -> Result<(), Fail> {
+    let mut tally = sender(rt.alloc())?;
+    counts_again(&rt, &mut tally)?;
+    Ok(())
+}
+
+/// Whether a book balances, and whether its finish is done, where nothing was counted at the home.
+fn untouched(alloc: Global, book: &Book, places: u16) -> (bool, bool) {
+    answers(book, &Tally::new(alloc, 0, places))
+}
+
+/// A book that doesn't balance by one report is opened again, for the next finish.
+fn opens_again(
+    rt: &impl Abort,
+    alloc: Global,
+    book: &mut Book,
+    report: &Report,
+    places: u16,
+) -> Result<(), Stop> {
+    take(rt, book, report);
+    assert!(rt; book.places() == 3 && untouched(alloc, book, 3) == (false, false));
+    assert!(rt; NEXT.home < places);
+    book.reopen(NEXT, places)?;
+    assert!(rt; finish_of(book) == (NEXT, places));
+    assert!(rt; untouched(alloc, book, places) == (true, true));
+    Ok(())
+}
+
+/// A finish that ended leaves nothing behind in the book that the next one takes. Nor where that is a finish of fewer or more
+/// places.
+#[test]
+fn a_book_is_used_again(rt: HostRuntime) -> Result<(), Fail> {
+    let report = report(rt.alloc(), 1, [0, 0, 1], [0, 0, 0])?;
     for places in [1, 3, 5] {
-        let mut book = Book::open(alloc, FINISH, 3)?;
-        take(&rt, &mut book, &report(alloc, 1, [0, 0, 1], [0, 0, 0])?);
-        assert!(rt; !book.balanced(&Tally::new(alloc, 0, 3)));
-        assert!(rt; next.home < places);
-        book.reopen(next, places)?;
-        assert!(rt; book.finish() == next && book.places() == places);
-        assert!(rt; answers(&book, &Tally::new(alloc, 0, places)) == (true, true));
+        let mut book = Book::open(rt.alloc(), FINISH, 3)?;
+        opens_again(&rt, rt.alloc(), &mut book, &report, places)?;
     }
     Ok(())
 }

@@ -151,25 +151,27 @@ fn meets(
     }
 }
 
+/// The frame that takes a list of `count` objects along.
+fn frame_of_list(
+    alloc: Global,
+    rt: &impl Abort,
+    image: &ImageView,
+    count: u32,
+) -> Result<Vec<u8>, Stop> {
+    let heap = list(alloc, count)?;
+    frame_of(alloc, rt, &heap, image, 0)
+}
+
 /// A frame takes 1,048,576 objects along and no more; as many texts, and as many rails.
 #[test]
 fn the_most_objects(rt: HostRuntime) -> Result<(), Fail> {
     let bytes = assembled(rt.alloc(), LISTS)?;
     let image = image_of(rt.alloc(), &bytes)?;
-    let frame = frame_of(rt.alloc(), &rt, &list(rt.alloc(), MOST)?, &image, 0)?;
+    let frame = frame_of_list(rt.alloc(), &rt, &image, MOST)?;
     assert!(rt; frame.len() == 8_388_637);
     assert!(rt; arrived(rt.alloc(), &image, &frame, 0) == (1_048_576, 0, 0));
-    let more = list(rt.alloc(), MOST + 1)?;
-    assert!(rt;
-        meets(
-            rt.alloc(),
-            &rt,
-            &image,
-            &more,
-            0,
-            Stop::Limit(Limit::FrameObjects)
-        )
-    );
+    let more = frame_of_list(rt.alloc(), &rt, &image, MOST + 1);
+    assert!(rt; matches!(more, Err(Stop::Limit(Limit::FrameObjects))));
     Ok(())
 }
 

@@ -340,6 +340,42 @@ fn is_copy(
     walk.ends(image, from, to) && to.objects() == before.wrapping_add(walk.objects.count)
 }
 
+/// The frame of a new activity at place 1 that takes words of a heap along.
+fn sent(
+    alloc: Global,
+    rt: &impl Abort,
+    image: &ImageView,
+    marks: &mut Marks,
+    from: &Heap,
+    words: &[u64; 8],
+) -> Option<Vec<u8>> {
+    let slots = slots();
+    assert!(rt; heap_is_sound(from, image, 2));
+    assert!(rt; words_are_sound(from, 2, &slots, words));
+    let under = Finish { home: 0, number: 1 };
+    let head = Head {
+        from: 0,
+        to: 1,
+        what: What::Spawn { under, function: 0 },
+    };
+    capture(alloc, marks, from, image, 2, &head, &slots, words).ok()
+}
+
+/// Whether a frame brings a copy of the words of a heap to another one.
+fn is_brought(
+    alloc: Global,
+    image: &ImageView,
+    from: &Heap,
+    words: &[u64; 8],
+    frame: &[u8],
+    to: &mut Heap,
+) -> Option<bool> {
+    let view = FrameView::read(alloc, frame, 2).ok()?;
+    let before = to.objects();
+    let roots = arrive(alloc, &view, to, image, 1, 1, &slots()).ok()?;
+    Some(is_copy(alloc, image, from, to, words, &roots, before))
+}
+
 /// Whether what a random heap sends arrives as a copy.
 fn arrives(
     alloc: Global,
@@ -355,22 +391,10 @@ fn arrives(
         fours: dice.below(6).wrapping_add(1),
     };
     let from = random_heap(alloc, &mut dice, image, &counts)?;
-    let slots = slots();
-    let words = random_words(&mut dice, &counts, &slots);
-    assert!(rt; heap_is_sound(&from, image, 2));
-    assert!(rt; words_are_sound(&from, 2, &slots, &words));
-    let under = Finish { home: 0, number: 1 };
-    let head = Head {
-        from: 0,
-        to: 1,
-        what: What::Spawn { under, function: 0 },
-    };
-    let frame = capture(alloc, marks, &from, image, 2, &head, &slots, &words).ok()?;
-    let view = FrameView::read(alloc, &frame, 2).ok()?;
+    let words = random_words(&mut dice, &counts, &slots());
+    let frame = sent(alloc, rt, image, marks, &from, &words)?;
     let mut to = host(alloc)?;
-    let before = to.objects();
-    let roots = arrive(alloc, &view, &mut to, image, 1, 1, &slots).ok()?;
-    Some(is_copy(alloc, image, &from, &to, &words, &roots, before))
+    is_brought(alloc, image, &from, &words, &frame, &mut to)
 }
 
 #[test]

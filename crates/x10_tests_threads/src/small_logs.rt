@@ -3,7 +3,7 @@ use std::alloc::Global;
 use std::fmt::Write;
 use std::process::Abort;
 use std::test::*;
-use x10_hall::Repeats;
+use x10_hall::{Repeats, Turn};
 use x10_log::{Log, LogCause, read_log, write_log};
 
 /// The first three lines of a log.
@@ -11,6 +11,9 @@ const HEAD: &str = "x10 log 1
 image 000102030405060708090a0b0c0d0e0f101112131415161718191a1b1c1d1e1f
 places 2
 ";
+
+/// The second line of a log, without the last byte of the digest.
+const IMAGE: &str = "image 000102030405060708090a0b0c0d0e0f101112131415161718191a1b1c1d1e";
 
 /// A turn.
 const TURN: &str = "0 <3 <4 0*3 1 >1:0102ff =-5 \"a \\\"b\\\\c\\n\"\n";
@@ -62,33 +65,40 @@ fn words(alloc: Global, before: &str, count: usize) -> Result<String, Fail> {
     Ok(line)
 }
 
+/// Whether a turn is the one of `TURN`.
+fn is_turn(turn: &Turn) -> bool {
+    turn.place == 0
+        && turn.taken.as_slice() == [3, 4].as_slice()
+        && turn.keys.len() == 4
+        && turn.keys.at(2) == 0
+        && turn.keys.at(3) == 1
+        && turn.frames.len() == 1
+        && turn.frames[0].to == 1
+        && turn.frames[0].bytes.as_slice() == [1, 2, 255].as_slice()
+        && turn.lines.len() == 2
+}
+
+/// Whether a log has the head `HEAD`, and then the turn `TURN` and one of place 1 that does nothing.
+fn is_small(log: &Log) -> bool {
+    log.digest[0] == 0
+        && log.digest[31] == 31
+        && log.places == 2
+        && log.turns.len() == 2
+        && is_turn(&log.turns[0])
+        && log.turns[1].place == 1
+        && log.turns[1].keys.is_empty()
+}
+
 #[test]
 fn small_log_is_read(rt: HostRuntime) -> Result<(), Fail> {
-    let alloc = rt.alloc();
-    let mut text = String::new(alloc);
+    let mut text = String::new(rt.alloc());
     write!(text, "{HEAD}{TURN}1\n")?;
-    let Ok(log) = read_log(alloc, text.as_str()) else {
-        assert!(rt; false);
-        return Ok(());
+    let Ok(log) = read_log(rt.alloc(), text.as_str()) else {
+        return Err("the log isn't read".into());
     };
-    assert_eq!(rt; log.digest[0], 0);
-    assert_eq!(rt; log.digest[31], 31);
-    assert_eq!(rt; log.places, 2);
-    assert_eq!(rt; log.turns.len(), 2);
-    let turn = &log.turns[0];
-    assert_eq!(rt; turn.place, 0);
-    assert_eq!(rt; turn.taken.as_slice(), [3, 4].as_slice());
-    assert_eq!(rt; turn.keys.len(), 4);
-    assert_eq!(rt; turn.keys.at(2), 0);
-    assert_eq!(rt; turn.keys.at(3), 1);
-    assert_eq!(rt; turn.frames.len(), 1);
-    assert_eq!(rt; turn.frames[0].to, 1);
-    assert_eq!(rt; turn.frames[0].bytes.as_slice(), [1, 2, 255].as_slice());
-    assert_eq!(rt; turn.lines.len(), 2);
-    assert_eq!(rt; log.turns[1].place, 1);
-    assert!(rt; log.turns[1].keys.is_empty());
-    let again = written(alloc, log)?;
-    assert_eq!(rt; again.as_str(), text.as_str());
+    assert!(rt; is_small(&log));
+    let again = written(rt.alloc(), log)?;
+    assert!(rt; again.as_str() == text.as_str());
     Ok(())
 }
 
@@ -212,10 +222,21 @@ fn changed_words_and_line_ends(rt: HostRuntime) -> Result<(), Fail> {
     Ok(())
 }
 
+/// Why a log of these three lines and no turn is refused.
+fn head_refusal(
+    alloc: Global,
+    first: &str,
+    digest: &str,
+    third: &str,
+) -> Result<Option<(usize, LogCause)>, Fail> {
+    let mut text = String::new(alloc);
+    write!(text, "{first}\n{IMAGE}{digest}\n{third}\n")?;
+    refusal(alloc, text.as_str())
+}
+
 #[test]
 fn changed_heads(rt: HostRuntime) -> Result<(), Fail> {
     let alloc = rt.alloc();
-    let image = "image 000102030405060708090a0b0c0d0e0f101112131415161718191a1b1c1d1e";
     for (first, last, third, fault) in [
         ("x10 log 1", "1f", "places 2", None),
         ("x10 log 1", "2f", "places 64", None),
@@ -229,40 +250,43 @@ fn changed_heads(rt: HostRuntime) -> Result<(), Fail> {
         ("x10 log 1", "1f", "places 02", Some((3, LogCause::Head))),
         ("x10 log 1", "1f", "place 2", Some((3, LogCause::Head))),
     ] {
-        let mut text = String::new(alloc);
-        write!(text, "{first}\n{image}{last}\n{third}\n")?;
-        assert_eq!(rt; refusal(alloc, text.as_str())?, fault);
+        assert!(rt; head_refusal(alloc, first, last, third)? == fault);
     }
-    assert_eq!(rt; refusal(alloc, "")?, Some((1, LogCause::Head)));
-    assert_eq!(rt; refusal(alloc, "x10 log 1\n")?, Some((2, LogCause::Ending)));
+    assert!(rt; refusal(alloc, "")? == Some((1, LogCause::Head)));
+    assert!(rt; refusal(alloc, "x10 log 1\n")? == Some((2, LogCause::Ending)));
     Ok(())
+}
+
+/// Why a log with a line of `count` words behind its head is refused.
+fn words_refusal(
+    alloc: Global,
+    before: &str,
+    count: usize,
+) -> Result<Option<(usize, LogCause)>, Fail> {
+    let line = words(alloc, before, count)?;
+    refusal_behind(alloc, line.as_str())
 }
 
 #[test]
 fn turns_at_their_limits(rt: HostRuntime) -> Result<(), Fail> {
     let alloc = rt.alloc();
-    let taken = words(alloc, "<", 16)?;
-    assert_eq!(rt; refusal_behind(alloc, taken.as_str())?, None);
-    let taken = words(alloc, "<", 17)?;
-    assert_eq!(rt;
-        refusal_behind(alloc, taken.as_str())?,
-        Some((4, LogCause::Count))
-    );
-    let keys = words(alloc, "", 64)?;
-    assert_eq!(rt; refusal_behind(alloc, keys.as_str())?, None);
-    let keys = words(alloc, "", 65)?;
-    assert_eq!(rt;
-        refusal_behind(alloc, keys.as_str())?,
-        Some((4, LogCause::Count))
-    );
+    let too_many = Some((4, LogCause::Count));
+    for (before, count, fault) in [
+        ("<", 16, None),
+        ("<", 17, too_many),
+        ("", 64, None),
+        ("", 65, too_many),
+    ] {
+        assert!(rt; words_refusal(alloc, before, count)? == fault);
+    }
     for (line, fault) in [
         ("0 4*64\n", None),
         ("0 4*60 5*4\n", None),
-        ("0 4*65\n", Some((4, LogCause::Count))),
-        ("0 4*60 5*5\n", Some((4, LogCause::Count))),
-        ("0 4*18446744073709551615\n", Some((4, LogCause::Count))),
+        ("0 4*65\n", too_many),
+        ("0 4*60 5*5\n", too_many),
+        ("0 4*18446744073709551615\n", too_many),
     ] {
-        assert_eq!(rt; refusal_behind(alloc, line)?, fault);
+        assert!(rt; refusal_behind(alloc, line)? == fault);
     }
     Ok(())
 }

@@ -144,6 +144,23 @@ fn worked<'a>(
     Some(work(rt, alloc, verified, 0, 1, port, gate))
 }
 
+/// Whether the first turn that a worker kept steps these keys.
+fn begins_with(trail: &Trail, keys: &[usize]) -> bool {
+    if trail.turns().is_empty() {
+        return false;
+    }
+    let turn = trail.turns().at(0);
+    if turn.keys.len() != keys.len() {
+        return false;
+    }
+    for at in 0..keys.len() {
+        if at >= turn.keys.len() || turn.keys.at(at) != keys[at] {
+            return false;
+        }
+    }
+    true
+}
+
 /// Whether the first turn of a module at one place steps these keys.
 fn steps<R: Wait>(rt: &R, alloc: Global, text: &str, keys: &[usize]) -> Result<bool, Fail> {
     let bytes = assembled(alloc, text)?;
@@ -153,19 +170,7 @@ fn steps<R: Wait>(rt: &R, alloc: Global, text: &str, keys: &[usize]) -> Result<b
     let Some(Ok(trail)) = worked(rt, alloc, &verified, &desk, &Open) else {
         return Err("there is no trail".into());
     };
-    if trail.turns().is_empty() {
-        return Ok(false);
-    }
-    let turn = trail.turns().at(0);
-    if turn.keys.len() != keys.len() {
-        return Ok(false);
-    }
-    for at in 0..keys.len() {
-        if at >= turn.keys.len() || turn.keys.at(at) != keys[at] {
-            return Ok(false);
-        }
-    }
-    Ok(true)
+    Ok(begins_with(&trail, keys))
 }
 
 /// A key that begins, or comes back, has its place in the order at once. One that is kept out is passed over until then.

@@ -175,16 +175,21 @@ fn is_right(what: Change, at: Option<usize>, turns: usize, fault: Option<AuditFa
     fault == wanted.map(|turn| AuditFault::Differs(turn))
 }
 
+/// Whether a change in a log is reported.
+fn is_told_of(alloc: Global, kept: &Kept, what: Change) -> Result<bool, Fail> {
+    let mut turns = listed(alloc, &kept.log)?;
+    let at = make_change(alloc, &mut turns, what)?;
+    let log = logged(alloc, turns)?;
+    let fault = weave(alloc, &log, &kept.trails).err();
+    Ok(is_right(what, at, log.len(), fault))
+}
+
 /// Whether a change in the log of a new run is reported.
 fn is_told<R: Wait>(rt: &R, alloc: Global, what: Change) -> Result<bool, Fail> {
     let bytes = assembled(alloc, OWN)?;
     let verified = program(alloc, &bytes)?;
-    let Kept { trails, log } = run_alone(rt, alloc, &verified)?;
-    let mut turns = listed(alloc, &log)?;
-    let at = make_change(alloc, &mut turns, what)?;
-    let log = logged(alloc, turns)?;
-    let fault = weave(alloc, &log, &trails).err();
-    Ok(is_right(what, at, log.len(), fault))
+    let kept = run_alone(rt, alloc, &verified)?;
+    is_told_of(alloc, &kept, what)
 }
 
 #[test]
@@ -229,25 +234,32 @@ fn other_ports(rt: HostRuntime) -> Result<(), Fail> {
 }
 
 /// Whether the last turn of a log is one of a place.
-fn ends_at(log: &[Turn], place: u16) -> bool {
-    match log.last() {
-        Some(turn) => turn.place == place,
-        None => false,
-    }
+fn ends_at(log: &Repeats<Turn>, place: u16) -> bool {
+    let turns = log.len();
+    turns > 0 && log.at(turns - 1).place == place
+}
+
+/// A log without its last turn.
+fn without_last(alloc: Global, log: &Repeats<Turn>) -> Result<Repeats<Turn>, Fail> {
+    let mut turns = listed(alloc, log)?;
+    turns.pop();
+    logged(alloc, turns)
+}
+
+/// Whether a log without its last turn differs at its end from what the workers kept.
+fn differs_cut(alloc: Global, kept: &Kept) -> Result<bool, Fail> {
+    let cut = without_last(alloc, &kept.log)?;
+    let fault = weave(alloc, &cut, &kept.trails).err();
+    Ok(fault == Some(AuditFault::Differs(cut.len())))
 }
 
 #[test]
 fn last_turn_elsewhere(rt: HostRuntime) -> Result<(), Fail> {
     let bytes = assembled(rt.alloc(), ACROSS)?;
     let verified = program(rt.alloc(), &bytes)?;
-    let Kept { trails, log } = run_in_turn(&rt, rt.alloc(), &verified)?;
-    let whole = weave(rt.alloc(), &log, &trails).err();
-    assert!(rt; whole == Some(AuditFault::Open));
-    let mut turns = listed(rt.alloc(), &log)?;
-    assert!(rt; ends_at(&turns, 1));
-    turns.pop();
-    let log = logged(rt.alloc(), turns)?;
-    let cut = weave(rt.alloc(), &log, &trails).err();
-    assert!(rt; cut == Some(AuditFault::Differs(log.len())));
+    let kept = run_in_turn(&rt, rt.alloc(), &verified)?;
+    let whole = weave(rt.alloc(), &kept.log, &kept.trails).err();
+    assert!(rt; whole == Some(AuditFault::Open) && ends_at(&kept.log, 1));
+    assert!(rt; differs_cut(rt.alloc(), &kept)?);
     Ok(())
 }
