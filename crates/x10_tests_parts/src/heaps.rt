@@ -35,8 +35,8 @@ fn make_three(rt: &impl Abort, heap: &mut Heap) -> Result<(), Stop> {
     Ok(())
 }
 
-/// Whether the three objects have these fields, and no others.
-fn has_their_fields(rt: &impl Abort, heap: &Heap) {
+/// The three objects have these fields, and no others.
+fn check_fields(rt: &impl Abort, heap: &Heap) {
     for (object, at, word) in [
         (0, 0, Some(1)),
         (0, 1, Some(3)),
@@ -50,8 +50,8 @@ fn has_their_fields(rt: &impl Abort, heap: &Heap) {
     }
 }
 
-/// Whether the three objects are of these classes.
-fn has_their_classes(rt: &impl Abort, heap: &Heap) {
+/// The three objects are of these classes.
+fn check_classes(rt: &impl Abort, heap: &Heap) {
     for (object, class) in [(0, 7), (1, 0), (2, 65_535)] {
         assert!(rt; object < 3 && heap.objects() == 3);
         assert!(rt; heap.class(object) == class);
@@ -72,8 +72,8 @@ fn make_again(rt: &impl Abort, heap: &mut Heap) -> Result<(), Fail> {
 fn objects(rt: HostRuntime) -> Result<(), Fail> {
     let mut heap = Heap::new(rt.alloc());
     make_three(&rt, &mut heap)?;
-    has_their_fields(&rt, &heap);
-    has_their_classes(&rt, &heap);
+    check_fields(&rt, &heap);
+    check_classes(&rt, &heap);
     make_again(&rt, &mut heap)?;
     Ok(())
 }
@@ -93,8 +93,8 @@ fn make_rails(rt: &impl Abort, heap: &mut Heap) -> Result<(), Stop> {
     Ok(())
 }
 
-/// Whether the three rails have these bytes, and no others.
-fn has_their_bytes(rt: &impl Abort, heap: &Heap) {
+/// The three rails have these bytes, and no others.
+fn check_bytes(rt: &impl Abort, heap: &Heap) {
     assert!(rt; heap.rails() == 3);
     assert!(rt; heap.rail(0) == [0, 0, 255].as_slice() && heap.rail(1).is_empty());
     assert!(rt; heap.rail_get(2, 65_534) == Some(1) && heap.rail_get(2, 65_535).is_none());
@@ -104,7 +104,7 @@ fn has_their_bytes(rt: &impl Abort, heap: &Heap) {
 fn rails(rt: HostRuntime) -> Result<(), Fail> {
     let mut heap = Heap::new(rt.alloc());
     make_rails(&rt, &mut heap)?;
-    has_their_bytes(&rt, &heap);
+    check_bytes(&rt, &heap);
     Ok(())
 }
 
