@@ -349,11 +349,11 @@ class World(_Handled):
         """The keys of the activities at a place, rising. There may be events between them."""
         return _rising(lambda start: self.next_key(place, start))
 
-    def step(self, place: int, key: int) -> None:
-        """Makes a step of the activity with a key at a place. Where it can't move nothing changes. Raises a Fault where the world
-        has stopped."""
+    def step(self, place: int, key: int) -> bool:
+        """Makes a step of the activity with a key at a place, and returns whether it moved; where it can't, nothing changes. Raises
+        a Fault where the world has stopped."""
         fault = _Fault()
-        _found(self._call("step", _within(place, 16), _within(key, 64), ctypes.byref(fault)), fault)
+        return _found(self._call("step", _within(place, 16), _within(key, 64), ctypes.byref(fault)), fault)
 
     def next_frame(self, place: int, start: int = 0) -> int | None:
         """The least number of a frame in flight to a place, from a number on; None where there is none."""
@@ -367,11 +367,11 @@ class World(_Handled):
         """The frame in flight with a number; None where there is none. They are numbered from 0 as they are put out."""
         return self._frame("frame", _within(number, 64))
 
-    def deliver(self, number: int) -> None:
-        """Delivers the frame with a number to its place. Where none is in flight nothing changes. Raises a Fault where the world
-        has stopped."""
+    def deliver(self, number: int) -> bool:
+        """Delivers the frame with a number to its place, and returns whether it was in flight; where it wasn't, nothing changes.
+        Raises a Fault where the world has stopped."""
         fault = _Fault()
-        _found(self._call("deliver", _within(number, 64), ctypes.byref(fault)), fault)
+        return _found(self._call("deliver", _within(number, 64), ctypes.byref(fault)), fault)
 
     @property
     def ended(self) -> bool:

@@ -303,8 +303,9 @@ static uint32_t run_world(void)
             }
             for (key = 0; burjeeg_world_next_key(&world, id, key, &key) == BURJEEG_DONE; key++) {
                 status = burjeeg_world_step(&world, id, key, &fault);
-                if (status != BURJEEG_DONE)
+                if (status != BURJEEG_DONE && status != BURJEEG_NOTHING)
                     return status;
+                status = BURJEEG_DONE;
             }
         }
     }
@@ -318,8 +319,8 @@ static void worlds(void)
     size_t length = 0;
     long before = taken;
     SAYS(run_world() == BURJEEG_DONE);
-    SAYS(burjeeg_world_deliver(&world, 1000000, &fault) == BURJEEG_DONE);
-    SAYS(burjeeg_world_step(&world, PLACES, 0, &fault) == BURJEEG_DONE);
+    SAYS(burjeeg_world_deliver(&world, 1000000, &fault) == BURJEEG_NOTHING);
+    SAYS(burjeeg_world_step(&world, PLACES, 0, &fault) == BURJEEG_NOTHING);
     SAYS(burjeeg_world_next_key(&world, PLACES, 0, &key) == BURJEEG_NOTHING);
     SAYS(burjeeg_world_line(&world, PLACES, 0, buffer, sizeof buffer, &needed) == BURJEEG_NOTHING && needed == 0);
     for (uint16_t id = 0; id < PLACES; id++) {

@@ -37,9 +37,9 @@ with burjeeg.World(module, 2) as world, burjeeg.Place(module, 0, 2) as place:
     says("keys of a place", [0], lambda: list(place.keys()))
     for number in (-1, 9, 1 << 32, 1 << 64):
         says(f"a step with key {number}", (False, []), lambda: (place.step(number), place.sent()))
-        says(f"frame {number}", (None, None), lambda: (world.deliver(number), world.frame(number)))
+        says(f"frame {number}", (False, None), lambda: (world.deliver(number), world.frame(number)))
         says(f"place {number} of a world", ([], [], []), lambda: (list(world.keys(number)), list(world.in_flight(number)), world.lines(number)))
-        says(f"steps of a world with {number}", (None, None), lambda: (world.step(number, 0), world.step(0, number)))
+        says(f"steps of a world with {number}", (False, False), lambda: (world.step(number, 0), world.step(0, number)))
     says("the run has begun", ([0], None, False, False), lambda: (list(world.keys(0)), world.next_frame(1), world.ended, place.ended))
     says("bytes of a frame", "x10p: frame: Place, status 1", lambda: place.receive(bytes([2, 4]) + bytes(40)))
 

@@ -237,13 +237,14 @@ uint32_t burjeeg_world_new(burjeeg_module *module, uint16_t places, burjeeg_worl
 /* Closes a world, and gives back its memory; one that is closed stays so. */
 void burjeeg_world_free(burjeeg_world *world);
 
-/* Makes one step of the activity with a key at a place. BURJEEG_DONE: it was made, or what it names can't move, and nothing has
- * changed. BURJEEG_STOPPED: the world has stopped, for want of memory or at a limit, and makes no more events; the fault says
- * which. */
+/* Makes one step of the activity with a key at a place. BURJEEG_DONE: it moved. BURJEEG_NOTHING: no activity that can move has
+ * the key there, and nothing has changed. BURJEEG_STOPPED: the world has stopped, out of memory or at a limit, and makes no more
+ * events; the fault says which. */
 uint32_t burjeeg_world_step(burjeeg_world *world, uint16_t place, size_t key, burjeeg_fault *fault);
 
 /* Delivers the frame with a number to the place that it is for. Frames are numbered from 0 in the order in which they are put
- * out. The status is as that of a step; where no frame with the number is in flight nothing has changed. */
+ * out. BURJEEG_DONE: the place took it in. BURJEEG_NOTHING: no frame with the number is in flight, and nothing has changed.
+ * BURJEEG_STOPPED: as of a step. */
 uint32_t burjeeg_world_deliver(burjeeg_world *world, uint64_t number, burjeeg_fault *fault);
 
 /* Writes to `*key` the least key of an activity at a place that is at least `from`. BURJEEG_NOTHING: there is none. */

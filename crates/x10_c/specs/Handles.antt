@@ -35,7 +35,7 @@ opening_status (Err unopened.Memory) = 2
 opening_status (Err unopened.NoModule) = 7
 opening_status (Err unopened.InUse) = 8
 
--- ---- a step
+-- ---- a step of a place, or an event of a world
 
 abbrev pub stop_numbers : Stop → FaultNumbers
 stop_numbers stop.Memory = plain 602
@@ -80,16 +80,6 @@ receive_status (Err why) = refusal_status why
 abbrev pub receive_told : Result Unit Refusal → FaultNumbers
 receive_told (Ok u) = no_fault
 receive_told (Err why) = refusal_numbers why
-
--- ---- a world is opened, and makes an event
-
-abbrev pub event_status : Result Unit Stop → ℕ
-event_status (Ok u) = 0
-event_status (Err why) = 2
-
-abbrev pub event_told : Result Unit Stop → FaultNumbers
-event_told (Ok u) = no_fault
-event_told (Err why) = stop_numbers why
 
 -- ---- what was put out, and printed
 

@@ -1,6 +1,6 @@
 //! What the calls with handles answer.
 ghost use Rattle.std.specs.Prelude.{◌≡◌};
-ghost use Rattle.x10_c.specs.Handles.{event_status, event_told, opening_status, receive_status, receive_told, refusal_numbers, refusal_status, step_status, step_told, stop_numbers};
+ghost use Rattle.x10_c.specs.Handles.{opening_status, receive_status, receive_told, refusal_numbers, refusal_status, step_status, step_told, stop_numbers};
 
 use crate::kinds::kind_of_frame;
 use crate::numbers::{FaultNumbers, counted, none, plain};
@@ -38,7 +38,7 @@ fn numbers_of_stop(why: Stop) -> FaultNumbers
     }
 }
 
-/// Tells what came of a step, and its status.
+/// Tells what came of a step or a delivery, and its status.
 pub fn tell_step(stepped: Result<bool, Stop>, told: &mut FaultNumbers) -> u32
     ensures status { result ≡ step_status stepped }
     ensures told { told.new ≡ step_told stepped }
@@ -47,23 +47,6 @@ pub fn tell_step(stepped: Result<bool, Stop>, told: &mut FaultNumbers) -> u32
     match stepped {
         Ok(true) => 0,
         Ok(false) => NOTHING,
-        Err(why) => {
-            *told = numbers_of_stop(why);
-            2
-        }
-    }
-}
-
-/// Tells what came of an event, and its status.
-pub fn tell_event(made: Result<(), Stop>, told: &mut FaultNumbers) -> u32
-    ensures status { result ≡ event_status made }
-    ensures told { told.new ≡ event_told made }
-{
-    match made {
-        Ok(()) => {
-            *told = none();
-            0
-        }
         Err(why) => {
             *told = numbers_of_stop(why);
             2

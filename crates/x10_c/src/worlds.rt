@@ -1,16 +1,15 @@
 //! The calls of the header about a world behind a handle, each with the clauses of what it calls.
-ghost use Rattle.std.specs.Prelude.{◌≡◌, ◌≢◌, ◌⊎◌, Result, None, Some};
+ghost use Rattle.std.specs.Prelude.{◌≡◌, ◌≢◌, ◌⊎◌, Bool, Result, None, Some, true, false};
 ghost use Rattle.x10_kinds.specs.declared.stop.Stop.{Stop};
 ghost use Rattle.x10_model.specs.declared.event.Event.TheVariants as event;
-ghost use Rattle.x10_world.specs.Queries.{IsClosed};
 ghost use Rattle.x10_handles.specs.declared.unopened.Unopened.{Unopened};
 ghost use Rattle.x10_handles.specs.Handles.{inside_of};
-ghost use Rattle.x10_handles.specs.Worlds.{IsFrameFrom, IsFromAt, IsMade, LacksWorld, OpensWorld, ShowsWorld, WorksAsWorld};
+ghost use Rattle.x10_handles.specs.Worlds.{IsEnded, IsFrameFrom, IsFromAt, IsMade, LacksWorld, OpensWorld, ShowsWorld, WorksAsWorld};
 ghost use Rattle.x10_c.specs.Calls.{IsMutAddress};
-ghost use Rattle.x10_c.specs.Handles.{IsFlightTo, IsLineOfWorld, event_status, event_told, opening_status};
+ghost use Rattle.x10_c.specs.Handles.{IsFlightTo, IsLineOfWorld, opening_status, step_status, step_told};
 
 use crate::answer::NULL;
-use crate::handles::{CLOSED, NOTHING, of_opening, tell_event};
+use crate::handles::{CLOSED, NOTHING, of_opening, tell_step};
 use crate::null::is_null;
 use crate::numbers::FaultNumbers;
 use crate::showing::show;
@@ -54,8 +53,8 @@ pub extern "C" fn burjeeg_world_free(alloc: Global, world: &mut Handle)
     close(alloc, world);
 }
 
-/// A step of the activity with a key at a place. 0: it was made, or names nothing that can move; 2: the world has stopped; 7:
-/// there is no world behind the handle.
+/// A step of the activity with a key at a place. 0: it moved; 9: nothing that can move has the key there, and nothing has changed;
+/// 2: the world has stopped; 7: there is no world behind the handle.
 #[unsafe(no_mangle)]
 pub extern "C" fn burjeeg_world_step(
     alloc: Global,
@@ -67,21 +66,21 @@ pub extern "C" fn burjeeg_world_step(
     requires world { IsMutAddress world }
     requires told { IsMutAddress told }
     ensures lacks { result ≡ 7 → LacksWorld world.old world.new }
-    ensures made { result ≢ 7 → (r : Result Unit Stop) × (result ≡ event_status r)
-        × (told.new ≡ event_told r)
+    ensures made { result ≢ 7 → (r : Result Bool Stop) × (result ≡ step_status r)
+        × (told.new ≡ step_told r)
         × WorksAsWorld world.old world.new (λ x y. IsMade x (event.Step place key) r y) }
 {
     if is_null(&*world) || is_null(&*told) {
         return NULL;
     }
     match happen(alloc, world, Event::Step(place, key)) {
-        Some(made) => tell_event(made, told),
+        Some(moved) => tell_step(moved, told),
         None => CLOSED,
     }
 }
 
-/// The delivery of the frame with a number. 0: it was taken in, or there is none in flight with that number; 2: the world has
-/// stopped; 7: there is no world behind the handle.
+/// The delivery of the frame with a number. 0: it was taken in; 9: there is none in flight with that number, and nothing has
+/// changed; 2: the world has stopped; 7: there is no world behind the handle.
 #[unsafe(no_mangle)]
 pub extern "C" fn burjeeg_world_deliver(
     alloc: Global,
@@ -92,15 +91,15 @@ pub extern "C" fn burjeeg_world_deliver(
     requires world { IsMutAddress world }
     requires told { IsMutAddress told }
     ensures lacks { result ≡ 7 → LacksWorld world.old world.new }
-    ensures made { result ≢ 7 → (r : Result Unit Stop) × (result ≡ event_status r)
-        × (told.new ≡ event_told r)
+    ensures made { result ≢ 7 → (r : Result Bool Stop) × (result ≡ step_status r)
+        × (told.new ≡ step_told r)
         × WorksAsWorld world.old world.new (λ x y. IsMade x (event.Deliver number) r y) }
 {
     if is_null(&*world) || is_null(&*told) {
         return NULL;
     }
     match happen(alloc, world, Event::Deliver(number)) {
-        Some(made) => tell_event(made, told),
+        Some(moved) => tell_step(moved, told),
         None => CLOSED,
     }
 }
@@ -221,8 +220,8 @@ pub extern "C" fn burjeeg_world_line(
 pub extern "C" fn burjeeg_world_closed(alloc: Global, world: &mut Handle) -> u32
     requires { IsMutAddress world }
     ensures lacks { result ≡ 7 → LacksWorld world.old world.new }
-    ensures ended { result ≡ 0 → ShowsWorld world.old world.new (λ x. IsClosed x.places) }
-    ensures open { result ≡ 9 → ShowsWorld world.old world.new (λ x. IsClosed x.places → ⊥) }
+    ensures ended { result ≡ 0 → ShowsWorld world.old world.new (λ x. IsEnded x true) }
+    ensures open { result ≡ 9 → ShowsWorld world.old world.new (λ x. IsEnded x false) }
     ensures is { (result ≡ 0) ⊎ (result ≡ 7) ⊎ (result ≡ 9) }
 {
     if is_null(&*world) {

@@ -116,22 +116,18 @@ nothing_printed a = Appends-nil a
 pub has_run : (c : Certified) (count : ℕ) (x y : WorldState) → IsOpenedWorld c count x → RunsTo x y → NoneIsLeft y
     → HasRun c count (lines_at y.places)
 has_run c count x y opened to ended = record {
-  key = key;
   events = made.0;
   last = made.1;
-  run = subst (λ s. Run Ideal s (WithinBounds c.bounds) (opening s key) made.0 made.1) setting
-      (subst (λ bs. Run Ideal (setting_of_world x) (WithinBounds bs) (opening (setting_of_world x) key) made.0 made.1) opened.bounds made.2);
+  run = subst (λ s. Run Ideal s (WithinBounds c.bounds) (opening s 0) made.0 made.1) setting
+      (subst (λ bs. Run Ideal (setting_of_world x) (WithinBounds bs) (opening (setting_of_world x) 0) made.0 made.1) opened.bounds made.2);
   over = ended.over made.1 made.3;
   count = map_length (λ (q : PlaceState). map line_as q.lines) y.places ∙ to.kept.count ∙ opened.places.count_is;
   lines = lines_are y made.1 made.3;
 }
   where
-    key : ℕ
-    key = opened.stands.0
-
-    made : (events : List Event) × (v : World) × Run Ideal (setting_of_world x) (WithinBounds x.bounds) (opening (setting_of_world x) key) events v
+    made : (events : List Event) × (v : World) × Run Ideal (setting_of_world x) (WithinBounds x.bounds) (opening (setting_of_world x) 0) events v
         × StandsForWorld y v
-    made = to.runs (opening (setting_of_world x) key) opened.stands.1
+    made = to.runs (opening (setting_of_world x) 0) opened.stands
 
     setting : setting_of_world x ≡ record { program = c.program; places = count }
     setting = ap (λ m. record { program = m; places = length x.places }) opened.program
@@ -140,21 +136,17 @@ has_run c count x y opened to ended = record {
 -- the same, as far as the run went
 pub has_begun : (c : Certified) (count : ℕ) (x y : WorldState) → IsOpenedWorld c count x → RunsTo x y → HasBegun c count (lines_at y.places)
 has_begun c count x y opened to = record {
-  key = key;
   events = made.0;
   last = made.1;
-  run = subst (λ s. Run Ideal s (WithinBounds c.bounds) (opening s key) made.0 made.1) setting
-      (subst (λ bs. Run Ideal (setting_of_world x) (WithinBounds bs) (opening (setting_of_world x) key) made.0 made.1) opened.bounds made.2);
+  run = subst (λ s. Run Ideal s (WithinBounds c.bounds) (opening s 0) made.0 made.1) setting
+      (subst (λ bs. Run Ideal (setting_of_world x) (WithinBounds bs) (opening (setting_of_world x) 0) made.0 made.1) opened.bounds made.2);
   count = map_length (λ (q : PlaceState). map line_as q.lines) y.places ∙ to.kept.count ∙ opened.places.count_is;
   lines = lines_are y made.1 made.3;
 }
   where
-    key : ℕ
-    key = opened.stands.0
-
-    made : (events : List Event) × (v : World) × Run Ideal (setting_of_world x) (WithinBounds x.bounds) (opening (setting_of_world x) key) events v
+    made : (events : List Event) × (v : World) × Run Ideal (setting_of_world x) (WithinBounds x.bounds) (opening (setting_of_world x) 0) events v
         × StandsForWorld y v
-    made = to.runs (opening (setting_of_world x) key) opened.stands.1
+    made = to.runs (opening (setting_of_world x) 0) opened.stands
 
     setting : setting_of_world x ≡ record { program = c.program; places = count }
     setting = ap (λ m. record { program = m; places = length x.places }) opened.program

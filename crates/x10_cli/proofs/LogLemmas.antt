@@ -1,21 +1,26 @@
 -- What the commands say of the log of a run with threads.
-use Rattle.std.proofs.Common.{◌≡◌, ℕ, Bool, List, Option, Some, None, Result, Ok, Err, refl, sym, ap, subst, ◌∙◌, inl, inr, arith}
+use Rattle.std.proofs.Common.{◌≡◌, ℕ, Bool, List, Option, Some, None, Result, Ok, Err, refl, sym, ap, subst, ◌∙◌, inl, inr, arith, [], ◌∷◌, map, suc}
+use Rattle.std.specs.List.{AllByRecursion}
+use Rattle.std.proofs.lemmas.Bool.{cases_lt}
 use Rattle.std.specs.Prelude.{◌⊎◌, IfErr, OnOk, option_map}
 use Rattle.std.specs.Io.KnownBytes.{Appends, Keeps}
 use Rattle.std.proofs.KnownBytes.{Appends-kept, Keeps-trans}
 use Rattle.x10_kinds.specs.declared.stop.Stop.TheVariants as stop
 use Rattle.x10_model.specs.Places as machine
-use Rattle.x10_verify.specs.Certified.{Certified}
+use Rattle.x10_model.specs.declared.limits.TheConstants.{MOST_PLACES}
+use Rattle.x10_verify.specs.Certified.{Certified, IsCertified}
 use Rattle.x10_hall.specs.declared.turn.Turn.{Turn}
 use Rattle.x10_world.specs.Endings.{IsImageOf, lines_in}
+use Rattle.x10_world.specs.Opening.{IsForbidden}
 use Rattle.x10_workers.specs.Plays.{IsPlayed}
+use Rattle.x10_workers.specs.Weaves.{AreWithin}
 use Rattle.x10_workers.specs.Reports.{AreLinesBy, IsTold}
 use Rattle.x10_workers.specs.declared.fault.AuditFault.{AuditFault}
 use Rattle.x10_workers.specs.declared.fault.AuditFault.TheVariants as audit
 use Rattle.x10_workers.specs.declared.halt.WorkFault.{WorkFault}
 use Rattle.x10_workers.specs.declared.halt.WorkFault.TheVariants as work
-use Rattle.x10_log.specs.Logs.{LogValue, spelled}
-use Rattle.x10_log.specs.Limits.{FitsLog, IsLimited}
+use Rattle.x10_log.specs.Logs.{LogValue, spelled, turn_value, value_of}
+use Rattle.x10_log.specs.Limits.{FitsLog, IsLimited, IsWithin}
 use Rattle.x10_log.specs.declared.fault.LogCause.{LogCause}
 use Rattle.x10_log.specs.declared.fault.LogCause.TheVariants as log
 use Rattle.x10_log.specs.declared.fault.LogFault.{LogFault}
@@ -30,21 +35,47 @@ use Rattle.x10_cli.proofs.UndoneLemmas.{kept_by, none_appended, same_status}
 
 -- ---- a run that has ended
 
+-- turns that are short are within the limits of a log
+all_within : (places : ℕ) (turns : List Turn) → AreWithin places turns → AllByRecursion (IsWithin places) (map turn_value turns)
+all_within places [] within = tt
+all_within places (t ∷ ts) within =
+    let first = within 0 t refl in
+    (record { place = first.place; taken = first.short.few_taken; keys = first.short.few_keys }, all_within places ts (λ at u is. within (suc at) u is))
+
+limited : (v : Certified) (digest : List ℕ) (places : ℕ) (turns : List Turn) → IsCertified v → (IsForbidden v places → ⊥) → AreWithin places turns
+    → IsLimited (value_of digest places turns)
+limited v digest places turns certified permitted within = record {
+  some = elim (cases_lt places v.program.least_places) [
+    | inl less ↦ absurd (permitted (inl less))
+    | inr ge ↦ (let least = certified.fits.least_places.0 in omega (arith, ge, least))
+  ];
+  few = elim (cases_lt MOST_PLACES places) [
+    | inl more ↦ absurd (permitted (inr more))
+    | inr ge ↦ ge
+  ];
+  turns = all_within places turns within;
+}
+
 ended_by : (json : Bool) (bytes : List ℕ) (v : Certified) (asked : Option ℕ) (text : Option (List ℕ)) (turns : List Turn)
     (outputs : List (List machine.Line)) (a b : Option (List ℕ)) → IsImageOf bytes v → IsPlayed v (places_for asked v) turns outputs
+    → (IsForbidden v (places_for asked v) → ⊥) → AreWithin (places_for asked v) turns
     → HasLogText bytes text (places_for asked v) turns → Appends a b (all_lines json 0 outputs) → LeavesEnded asked json bytes text a b
-ended_by json bytes v asked None turns outputs a b is plays has p = has
-ended_by json bytes v asked (Some text) turns outputs a b is plays has p =
-    (v, record { image = is; turns = turns; log = has; outputs = outputs; plays = plays; printed = p })
+ended_by json bytes v asked None turns outputs a b is plays permitted within has p = has
+ended_by json bytes v asked (Some text) turns outputs a b is plays permitted within has p = (
+  v,
+  record { image = is; turns = turns; log = has; outputs = outputs; plays = plays; printed = p },
+  limited v has.digest (places_for asked v) turns is.certified permitted within,
+)
 
 pub run_ended : {T : Type 0} (json : Bool) (r : Result T Fault) (bytes : List ℕ) (v : Certified) (asked : Option ℕ) (n : ℕ)
     (text : Option (List ℕ)) (turns : List Turn) (outputs : List (List machine.Line)) (a b : Option (List ℕ)) → IsImageOf bytes v → n ≡ places_for asked v
-    → IsPlayed v n turns outputs → OnOk r (HasLogText bytes text n turns) → OnOk r (Appends a b (all_lines json 0 outputs))
-    → OnOk r (LeavesEnded asked json bytes text a b)
-run_ended json (Ok t) bytes v asked n text turns outputs a b is en plays has p =
+    → IsPlayed v n turns outputs → (IsForbidden v n → ⊥) → AreWithin n turns → OnOk r (HasLogText bytes text n turns)
+    → OnOk r (Appends a b (all_lines json 0 outputs)) → OnOk r (LeavesEnded asked json bytes text a b)
+run_ended json (Ok t) bytes v asked n text turns outputs a b is en plays permitted within has p =
     ended_by json bytes v asked text turns outputs a b is (subst (λ k. IsPlayed v k turns outputs) en plays)
+    (subst (λ k. IsForbidden v k → ⊥) en permitted) (subst (λ k. AreWithin k turns) en within)
     (subst (λ k. HasLogText bytes text k turns) en has) p
-run_ended json (Err e) bytes v asked n text turns outputs a b is en plays has p = tt
+run_ended json (Err e) bytes v asked n text turns outputs a b is en plays permitted within has p = tt
 
 pub ended_kept : (asked : Option ℕ) (json : Bool) (bytes : List ℕ) (text : Option (List ℕ)) (a b c : Option (List ℕ))
     → LeavesEnded asked json bytes text a b → Keeps b c → LeavesEnded asked json bytes text a c
@@ -59,6 +90,7 @@ ended_kept asked json bytes (Some text) a b c p k = (
     plays = p.1.plays;
     printed = Appends-kept a b c _ p.1.printed k;
   },
+  p.2,
 )
 
 -- ---- a run that stopped

@@ -126,11 +126,10 @@ verdict_line functions bound = codes "verified "
 -- the lines of a run of the module that has ended: from the machine's opening at so many places, with no event that goes
 -- wrong and no activity that takes more steps than its bound, to a world in which no activity lives
 pub record HasRun (c : Certified) (places : ℕ) (outputs : List (List machine.Line)) : Type 0 where
-  pub key : ℕ
   pub events : List Event
   pub last : World
   pub run : Run Ideal (record { program = c.program; places = places }) (WithinBounds c.bounds)
-      (opening (record { program = c.program; places = places }) key) events last
+      (opening (record { program = c.program; places = places }) 0) events last
   pub over : IsOver last
   pub count : length outputs ≡ places
   pub lines : AreLinesOf outputs last
@@ -199,11 +198,10 @@ Prints verb.Run json asked bytes old new = (c : Certified) × (outputs : List (L
 -- the lines of a run of the module, as far as it went: from the machine's opening at so many places, with no event that goes
 -- wrong and no activity that takes more steps than its bound
 pub record HasBegun (c : Certified) (places : ℕ) (outputs : List (List machine.Line)) : Type 0 where
-  pub key : ℕ
   pub events : List Event
   pub last : World
   pub run : Run Ideal (record { program = c.program; places = places }) (WithinBounds c.bounds)
-      (opening (record { program = c.program; places = places }) key) events last
+      (opening (record { program = c.program; places = places }) 0) events last
   pub count : length outputs ≡ places
   pub lines : AreLinesOf outputs last
 

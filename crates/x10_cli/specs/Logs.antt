@@ -56,12 +56,14 @@ pub record HasLoggedSome (bytes text : List ℕ) (json : Bool) (c : Certified) (
   pub lines : AreLinesBy places turns outputs
   pub printed : Appends old new (all_lines json 0 outputs)
 
--- what a run that has ended leaves at as many places as were asked for: its log, and the lines of its places
+-- what a run that has ended leaves at as many places as were asked for: its log, which is within the limits of logs, and the
+-- lines of its places
 abbrev pub LeavesEnded : Option ℕ → Bool → List ℕ → Option (List ℕ) → Option (List ℕ)
     → Option (List ℕ) → Type 0
 LeavesEnded asked json bytes None old new = ⊥
 LeavesEnded asked json bytes (Some text) old new = (c : Certified)
-    × HasReplayed bytes text json c (places_for asked c) old new
+    × (h : HasReplayed bytes text json c (places_for asked c) old new)
+    × IsLimited (value_of h.log.digest (places_for asked c) h.turns)
 
 -- what a run leaves that stopped: no log, and nothing is printed; or the log of its turns, and their lines
 abbrev pub LeavesLog : Option ℕ → Bool → List ℕ → Option (List ℕ) → Option (List ℕ)

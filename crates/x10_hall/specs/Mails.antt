@@ -37,6 +37,13 @@ refusal most h turn =
     (if nat_le (2 ^ 64) (posted_in h.log + length turn.frames.items) then Some
     (fault.Stop (stop.Limit limits.Frames)) else None))
 
+-- why turns aren't posted: where it is neither that the run was stopped, nor the limit of turns, memory was refused, or
+-- frames would be numbered too high
+abbrev pub IsPostFault : PostFault → Type 0
+IsPostFault fault.Stopped = Unit {0}
+IsPostFault fault.Turns = Unit {0}
+IsPostFault (fault.Stop why) = (why ≡ stop.Memory) ⊎ (why ≡ stop.Limit limits.Frames)
+
 -- turns stand at the end of the log
 abbrev pub with_turns : HallValue → List Turn → HallValue
 with_turns h turns = record {

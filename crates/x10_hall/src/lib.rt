@@ -4,6 +4,7 @@
 
 mod hall;
 mod keys;
+pub mod limits;
 mod mail;
 mod port;
 mod repeats;

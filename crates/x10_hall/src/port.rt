@@ -1,4 +1,7 @@
 //! What a worker asks of the hall.
+ghost use Rattle.std.specs.Prelude.{IfErr};
+ghost use Rattle.x10_hall.specs.Mails.{IsPostFault};
+
 use crate::turn::{Stint, Taken};
 use thiserror::Error;
 use x10_kinds::Stop;
@@ -49,14 +52,15 @@ pub enum PostFault {
 }
 
 /// The hall as a worker sees it. No method says what it does to what the threads share, since others may do the same at any
-/// time; the methods of `Hall` say that.
+/// time; the methods of `Hall` say that. Of `post` it is known why turns aren't posted.
 pub trait Port {
     /// Takes the next frame of a place's row.
     fn take(&self, place: u16) -> Take;
 
     /// Appends turns to the log, one after another, and their frames to the rows of their receivers. Where one is refused,
     /// those before it are in the log.
-    fn post(&self, stints: Vec<Stint>) -> Result<(), PostFault>;
+    fn post(&self, stints: Vec<Stint>) -> Result<(), PostFault>
+        ensures { IfErr result IsPostFault };
 
     /// Waits until there is a frame for a place, or the run has ended or was stopped.
     fn wait(&self, place: u16) -> Signal;

@@ -1,5 +1,5 @@
 -- A world behind a handle, and what is done with it.
-use Rattle.std.specs.Prelude.{◌≡◌, ◌≢◌, ℕ, ◌∷◌, [], true, Option, Some, None, Result, Err, IsSome, IfOk, IfErr, MatchOption, take}
+use Rattle.std.specs.Prelude.{◌≡◌, ◌≢◌, ◌↔◌, ℕ, ◌∷◌, [], Bool, true, false, Option, Some, None, Result, Err, IsSome, IsTrue, IfOk, IfErr, MatchOption}
 use Rattle.x10_kinds.specs.declared.stop.Stop.{Stop}
 use Rattle.x10_kinds.specs.declared.stop.Stop.TheVariants as stop
 use Rattle.x10_model.specs.declared.event.Event.{Event}
@@ -8,8 +8,9 @@ use Rattle.x10_verify.specs.Certified.{Certified}
 use Rattle.x10_place.specs.Opening.{IsNextKey}
 use Rattle.x10_flights.specs.Flights.{flies_to, IsNext}
 use Rattle.x10_world.specs.Opening.{IsForbidden, IsOpenedWorld}
-use Rattle.x10_world.specs.Queries.{HasNoKey, HasPlace}
-use Rattle.x10_world.specs.Runs.{Runs, Reaches, IsHaltedRun}
+use Rattle.x10_world.specs.Happenings.{CanHappen, Happened}
+use Rattle.x10_world.specs.Queries.{HasNoKey, HasPlace, IsClosed}
+use Rattle.x10_world.specs.Runs.{IsSameWorld, RunsThrough, StopsAt}
 use Rattle.x10_world.specs.StandsForWorld.{WorldState, StandsForWorld, KeepsSetting}
 use Rattle.x10_handles.specs.declared.handle.Handle.{Handle}
 use Rattle.x10_handles.specs.declared.inside.Inside.{Inside}
@@ -46,18 +47,27 @@ AltersWorld old new Acts = (x : WorldState) × (y : WorldState) × (old ≡ insi
 
 -- ---- what a world does
 
--- An event, as a world makes it (x10_world).
-pub record IsMade (x : WorldState) (event : Event) (result : Result Unit Stop) (y : WorldState)
+-- An event, as a world makes it (x10_world), and whether something moved.
+pub record IsMade (x : WorldState) (event : Event) (result : Result Bool Stop) (y : WorldState)
     : Type 0 where
-  pub all : IfOk result (λ u. (w : machine.World) → StandsForWorld x w
-      → Runs x w 1 (event ∷ []) y)
-  pub some : (w : machine.World) → StandsForWorld x w
-      → (n : ℕ) × Reaches x w (take n (event ∷ [])) y
+  pub told : IfOk result (λ moved. Happened x.places x.flights event moved y.places y.flights)
+  pub acts : IfOk result (λ moved. IsTrue moved ↔ CanHappen x event)
+  pub idle : IfOk result (λ moved. moved ≡ false → IsSameWorld x y)
+  pub all : IfOk result (λ moved. (w : machine.World) → StandsForWorld x w
+      → RunsThrough x w (event ∷ []) y)
   pub stopped : x.stopped ≡ true → (result ≡ Err stop.Stopped) × (y ≡ x)
-  pub goes : IfOk result (λ u. y.stopped ≢ true)
-  pub hindered : x.stopped ≢ true → IfErr result (IsHaltedRun x (event ∷ []) y)
+  pub goes : IfOk result (λ moved. y.stopped ≢ true)
+  pub hindered : x.stopped ≢ true → IfErr result (λ why. StopsAt x event why y)
   pub stop : IfErr result (λ why. y.stopped ≡ true)
   pub kept : KeepsSetting x y
+
+-- Whether the run has ended, as place 0 knows it: then no activity lives. Conversely, where none lives and no frame is in
+-- flight, it has ended.
+pub record IsEnded (x : WorldState) (result : Bool) : Type 0 where
+  pub value : IsTrue result ↔ IsClosed x.places
+  pub ended : (w : machine.World) → StandsForWorld x w → IsTrue result → machine.IsOver w
+  pub over : (w : machine.World) → StandsForWorld x w → machine.IsOver w
+      → x.flights.flying ≡ [] → IsTrue result
 
 -- the least key in use at a place, from a number on, or none
 abbrev pub IsFromAt : WorldState → (place from : ℕ) → Option ℕ → Type 0

@@ -1,13 +1,12 @@
 //! A world behind a handle: all places of a run, and the frames between them. Each call answers none where no world is there.
-ghost use Rattle.std.specs.Prelude.{◌≡◌, ◌↔◌, ◌⊎◌, None, Some, Err, IsTrue, IfOk, IfErr, MatchOption};
+ghost use Rattle.std.specs.Prelude.{◌≡◌, ◌⊎◌, None, Some, Err, IfOk, IfErr, MatchOption};
 ghost use Rattle.x10_verify.specs.Certified.{Certified};
 ghost use Rattle.x10_world.specs.Opening.{IsForbidden, IsOpenedWorld};
-ghost use Rattle.x10_world.specs.Queries.{IsClosed};
 ghost use Rattle.x10_world.specs.StandsForWorld.{WorldState};
 ghost use Rattle.x10_handles.specs.declared.inside.Inside.TheVariants as behind;
 ghost use Rattle.x10_handles.specs.declared.unopened.Unopened.TheVariants as why;
 ghost use Rattle.x10_handles.specs.Handles.{inside_of};
-ghost use Rattle.x10_handles.specs.Worlds.{AltersWorld, IsFrameFrom, IsFromAt, IsMade, LacksWorld, LacksWorldIn, OpensWorld, ShowsWorld, WorksAsWorld};
+ghost use Rattle.x10_handles.specs.Worlds.{AltersWorld, IsEnded, IsFrameFrom, IsFromAt, IsMade, LacksWorld, LacksWorldIn, OpensWorld, ShowsWorld, WorksAsWorld};
 
 use crate::handle::Handle;
 use crate::inside::Inside;
@@ -63,20 +62,29 @@ pub fn open_world(
     Ok(())
 }
 
-/// An event of what is behind a handle.
-fn happen_in(inside: &mut Inside, event: Event) -> Option<Result<(), Stop>>
+/// An event of a world, and whether something moved.
+fn made_in(world: &mut World, event: Event) -> Result<bool, Stop>
+    ensures { IsMade world.old event result world.new }
+{
+    world.going()?;
+    world.make_one(event)
+}
+
+/// An event of what is behind a handle, and whether something moved.
+fn happen_in(inside: &mut Inside, event: Event) -> Option<Result<bool, Stop>>
     ensures { MatchOption result (LacksWorldIn inside.old inside.new)
         (λ r. AltersWorld inside.old inside.new (λ x y. IsMade x event r y)) }
 {
     match inside {
-        Inside::World(world) => Some(world.run(&[event])),
+        Inside::World(world) => Some(made_in(world, event)),
         Inside::Module(_) => None,
         Inside::Place(_) => None,
     }
 }
 
-/// An event: a step of an activity, or the delivery of a frame. One that names nothing able to move changes nothing.
-pub fn happen(alloc: Global, handle: &mut Handle, event: Event) -> Option<Result<(), Stop>>
+/// An event: a step of an activity, or the delivery of a frame. Returns whether something moved: an event that names nothing able
+/// to move changes nothing.
+pub fn happen(alloc: Global, handle: &mut Handle, event: Event) -> Option<Result<bool, Stop>>
     ensures { MatchOption result (LacksWorld handle.old handle.new)
         (λ r. WorksAsWorld handle.old handle.new (λ x y. IsMade x event r y)) }
 {
@@ -121,14 +129,21 @@ pub fn next_frame(alloc: Global, handle: &mut Handle, place: u16, from: u64) -> 
     found
 }
 
-/// Whether the run has ended, as place 0 knows it.
+/// Whether the run of a world has ended.
+fn ended_in(world: &World) -> bool
+    ensures { IsEnded world.now result }
+{
+    world.closed()
+}
+
+/// Whether the run has ended, as place 0 knows it: then no activity lives.
 pub fn has_ended(alloc: Global, handle: &mut Handle) -> Option<bool>
     ensures { MatchOption result (LacksWorld handle.old handle.new)
-        (λ ended. ShowsWorld handle.old handle.new (λ x. IsTrue ended ↔ IsClosed x.places)) }
+        (λ ended. ShowsWorld handle.old handle.new (λ x. IsEnded x ended)) }
 {
     let inside = take(alloc, handle)?;
     let ended = match &*inside {
-        Inside::World(world) => Some(world.closed()),
+        Inside::World(world) => Some(ended_in(world)),
         Inside::Module(_) => None,
         Inside::Place(_) => None,
     };

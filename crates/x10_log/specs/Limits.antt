@@ -8,7 +8,7 @@ use Rattle.x10_model.specs.Places as machine
 use Rattle.x10_model.specs.Places.{Number, Words}
 use Rattle.x10_model.specs.declared.limits.TheConstants.{MOST_PLACES}
 use Rattle.x10_hall.specs.Halls.{PostedFrame}
-use Rattle.x10_log.specs.declared.limits.TheConstants.{MOST_TAKEN, MOST_STEPS}
+use Rattle.x10_hall.specs.declared.limits.TheConstants.{MOST_TAKEN, MOST_STEPS}
 use Rattle.x10_log.specs.Logs.{TurnValue, LogValue}
 
 -- the turn is one of a run with so many places: at most 16 frames taken and 64 steps

@@ -13,7 +13,7 @@ use Rattle.x10_hall.specs.Halls.{PostedFrame, frame_of}
 use Rattle.x10_log.specs.declared.fault.LogCause.{LogCause}
 use Rattle.x10_log.specs.declared.fault.LogFault.{LogFault}
 use Rattle.x10_log.specs.declared.fault.LogCause.TheVariants.{Memory}
-use Rattle.x10_log.specs.declared.limits.TheConstants.{MOST_TAKEN, MOST_STEPS}
+use Rattle.x10_hall.specs.declared.limits.TheConstants.{MOST_TAKEN, MOST_STEPS}
 use Rattle.x10_log.specs.declared.item.Item.{Item}
 use Rattle.x10_log.specs.declared.item.Item.TheVariants as item
 use Rattle.x10_log.specs.declared.draft.Draft.{Draft}

@@ -2,14 +2,14 @@
 
 ghost use Rattle.std.specs.Prelude.{◌≡◌, ◌≤◌, ◌++◌, ◌∷◌, [], IfOk, IfErr, OnOk, length, replicate, MatchResult, List};
 ghost use Rattle.std.specs.List.{flat_map, AllByRecursion};
-ghost use Rattle.x10_log.specs.declared.limits.TheConstants.{MOST_TAKEN, MOST_STEPS};
+ghost use Rattle.x10_hall.specs.declared.limits.TheConstants.{MOST_TAKEN, MOST_STEPS};
 ghost use Rattle.x10_log.specs.declared.fault.LogCause.TheVariants.{Memory};
 ghost use Rattle.x10_log.specs.Logs.{turn_value};
 ghost use Rattle.x10_log.specs.Reading.{Said, said, said_text, FitsSaid, tail_bytes, draft_value, nothing_said, with_said, with_all, AreFew, IsKept};
 
 use crate::fault::LogCause;
 use crate::item::{Item, item_at};
-use crate::limits::{MOST_STEPS, MOST_TAKEN};
+use x10_hall::limits::{MOST_STEPS, MOST_TAKEN};
 use std::alloc::{AllocError, Global};
 use x10_hall::{Keys, Posted, Turn};
 use x10_place::Line;

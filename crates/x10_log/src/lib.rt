@@ -5,7 +5,6 @@ mod cut;
 mod draft;
 mod fault;
 mod item;
-mod limits;
 mod log;
 mod pieces;
 mod quoted;

@@ -31,7 +31,7 @@ use Rattle.x10_verify.specs.Certified.{Certified}
 use Rattle.x10_verify.proofs.Wholes.{function_fits}
 use Rattle.x10_place.specs.declared.launching.Launch.{Launch}
 use Rattle.x10_place.specs.Arrivals.{IsLaunched, Launches}
-use Rattle.x10_place.specs.Receiving.{Admits, TakesFrame}
+use Rattle.x10_place.specs.Receiving.{Admits, IsVacantFor, TakesFrame}
 use Rattle.x10_place.specs.Stays.{StayState, StoreState, IsPlaced, AreCalling, open_in, origin_as, totals_in, books_of}
 use Rattle.x10_place.specs.StandsFor.{Far, context_of, PlaceState, place_of, plain, store_of, with_stays, line_as, IsOfRun, StandsForStay, HoldsExports, StandsFor, setting_of}
 use Rattle.x10_place.proofs.BooksOfFinishes.{without, booked_as}
@@ -39,6 +39,11 @@ use Rattle.x10_place.proofs.FittingValues.{arrived_grows, homes_named, values_fi
 use Rattle.x10_place.proofs.GrownFrames.{exports_kept}
 use Rattle.x10_place.proofs.StandingStays.{open_first, region_first}
 use Rattle.x10_place.proofs.Rebuilt.{admitted}
+
+vacant_for : (p : PlaceState) (message : Message) (key : ℕ) → key ≡ p.stays.vacant_key → IsVacantFor p message key
+vacant_for p (machine.Spawn from to under function graph) key e = e
+vacant_for p (machine.Shift from to waiting under function graph) key e = e
+vacant_for p (machine.Back from to waiting graph) key e = tt
 
 -- how much room there is for stays changes nothing
 plain_launches : {program : Module} {old new : Slab StayState} {s t : StoreState} {f : Frame} {l : Launch} → Launches program old s f l new t
@@ -52,6 +57,7 @@ plain_launches h = record {
   taken = h.taken;
   settles = h.settles;
   key = h.key;
+  vacant = h.vacant;
   free = h.free;
   few = h.few;
   child = h.child;
@@ -159,7 +165,7 @@ module _ (far : Far) (p : PlaceState) (m : machine.Place) (stands : StandsFor fa
       let c = h.settles.counted in
       let few = h.few in
       admitted far p m stands slab t h.key h.child child h.added grows child_stands message next
-      (λ le. omega (arith, few, le)) receives refl taken.holds exports
+      (λ le. omega (arith, few, le)) (vacant_for p message h.key h.vacant) receives refl taken.holds exports
       (stands.opened ∙ sym c.opened_is) (stands.lines ∙ sym (ap (λ ls. map line_as ls) c.lines))
       (record { here = c.here; places = c.places_are; totals = totals; kept = c.books_are })
       (booked_as p.id p.opened t.opened next.stays next.stays (books_of p.books) (books_of t.books)

@@ -42,7 +42,7 @@ use Rattle.x10_place.specs.declared.call_frame.CallFrame.{CallFrame}
 use Rattle.x10_place.specs.Arrivals.{GoesNextBy, GoesOnBy, ComesBack}
 use Rattle.x10_place.specs.Frames.{word_at, IsInside, IsFetchedFor}
 use Rattle.x10_place.specs.Homes.{place_in}
-use Rattle.x10_place.specs.Receiving.{Admits, TakesFrame}
+use Rattle.x10_place.specs.Receiving.{Admits, IsVacantFor, TakesFrame}
 use Rattle.x10_place.specs.Sending.{slots_of}
 use Rattle.x10_place.specs.Stays.{StayState, StoreState, IsPlaced, AreCalling, open_in, totals_in, books_of}
 use Rattle.x10_place.specs.StandsFor.{Far, context_of, PlaceState, place_of, plain, store_of, with_stays, line_as, Assigned, HoldRegisters, StandsForFrame, StandForCallers, IsOfRun, StandsForStay, HoldsExports, StandsFor, setting_of}
@@ -294,12 +294,12 @@ module _ (far : Far) (p : PlaceState) (m : machine.Place) (stands : StandsFor fa
   kept : {A : Type 0} (part : StoreState → A) → part t ≡ part (record (store_of p) { heap = t.heap })
   kept part = ap part h.store
 
-  pub admits_back : (message : Message) → Receives (setting_of p) p.id m message key after
+  pub admits_back : (message : Message) → IsVacantFor p message key → Receives (setting_of p) p.id m message key after
       → ((g : Finish) → totals_in (store_of p) g ≡ totals_after g (totals_in (store_of p) g) (Took message))
       → Admits far p m message (with_stays p slab t)
-  admits_back message receives totals =
+  admits_back message vacant receives totals =
       admitted far p m stands slab t key h.next to h.changed grows to_stands message after
-      (λ le. omega (arith, few, le)) receives refl taken.holds exports
+      (λ le. omega (arith, few, le)) vacant receives refl taken.holds exports
       (stands.opened ∙ sym (kept (λ s. s.opened))) (stands.lines ∙ sym (kept (λ s. map line_as s.lines)))
       (record {
         here = kept (λ s. s.here);
@@ -325,7 +325,7 @@ module _ (v : Certified) (old new : Slab StayState) (s t : StoreState) (stopped 
     refl,
     λ far m stands named. subst (λ q. Admits far (place_of v old s stopped) m message q)
         (seen_so v old new s t stopped (ap (λ (u : StoreState). u.here) h.store) (ap (λ (u : StoreState). u.places) h.store))
-        (admits_back far (place_of v old s stopped) m stands new t back from waiting (plain_back h) checks fits fits.body.0 named message
+        (admits_back far (place_of v old s stopped) m stands new t back from waiting (plain_back h) checks fits fits.body.0 named message tt
         (here, refl, comes far (place_of v old s stopped) m stands new t back from waiting (plain_back h) checks fits fits.body.0 named) (λ f. refl)),
   )
     where

@@ -139,6 +139,7 @@ module _ (far : Far) (p : PlaceState) (m : machine.Place) (stands : StandsFor fa
             report = λ f. dep.silent p.id f (totals_in (store_of p) f);
           }),
         );
+        vacant = λ k f u e. absurd (let none = ap sent (sym e) ∙ dep.sends in cc);
         texts = adds_none p key a i d.is_there d.fetched (with_stays p slab t) (makes_none op.Textk not_textk) (makes_none op.Tcat not_tcat) r.heap;
       }
 

@@ -82,7 +82,7 @@ module _ (program : Module) (s : StoreState) (f : Frame) (l : Launch) (fits : Fi
       (numbers : List ℕ) → IsOpenHere s l.under → Settles s (graph_of f) l roots t
       → ((m : Module) (here home : ℕ) (slots : List Slot) → FitsArrival m here home s.heap slots (snapshot_of (graph_of f))
       → IsTakenIn m here s.heap slots f roots t.heap)
-      → n ≡ sig.registers → n ≤ count → get old key ≡ None → key < 4294967296 → IsEnteredWith l.function count roots top → callers ≡ [] → numbers ≡ []
+      → n ≡ sig.registers → n ≤ count → key ≡ old.vacant_key → get old key ≡ None → key < 4294967296 → IsEnteredWith l.function count roots top → callers ≡ [] → numbers ≡ []
       → Updates old new key (Some (record {
         top = top;
         callers = callers;
@@ -92,7 +92,7 @@ module _ (program : Module) (s : StoreState) (f : Frame) (l : Launch) (fits : Fi
         inside = false;
         back = origin_as l.back;
       })) → Launches program old s f l new t
-  launches old new t roots n key count top callers numbers is_open settles taken e le free few entered no_callers no_finishes added = record {
+  launches old new t roots n key count top callers numbers is_open settles taken e le vacant free few entered no_callers no_finishes added = record {
     callee = fits.callee;
     begins = fits.begins;
     fits = fits.fits;
@@ -101,6 +101,7 @@ module _ (program : Module) (s : StoreState) (f : Frame) (l : Launch) (fits : Fi
     taken = taken program s.here s.here fits.callee.parameters fits.fits;
     settles = settles;
     key = key;
+    vacant = vacant;
     free = free;
     few = few;
     child = record {

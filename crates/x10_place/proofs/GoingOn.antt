@@ -8,7 +8,8 @@ use Rattle.x10_model.specs.Maps.{IsIn, with_entry}
 use Rattle.x10_model.specs.Modules.{Module, FitsImage}
 use Rattle.x10_model.specs.Values.{Cells}
 use Rattle.x10_model.specs.Places as machine
-use Rattle.x10_model.specs.Places.{Setting, Stay, innermost, Effect, Waits, Works, Opens, Closes, root, with_stay, next}
+use Rattle.x10_model.specs.declared.finish.Finish.{Finish}
+use Rattle.x10_model.specs.Places.{Setting, Stay, innermost, Effect, Waits, Works, Begins, Opens, Closes, root, with_stay, next}
 use Rattle.x10_model.specs.Totals.{zeros}
 use Rattle.x10_model.specs.Moves.{Does, with_line}
 use Rattle.x10_model.specs.Assignments.{State, Edges, Permits, Reaches, edges_of}
@@ -90,6 +91,7 @@ module _ (setting : Setting) (here : ℕ) (far : Far) (m : machine.Place) (key :
     pub counted : Unopened st → IsCountedBy st effect t
     pub booked : KeepsBooks effect st t
     pub works : (number : ℕ) → effect ≡ Waits number → ⊥
+    pub begins_none : (other function : ℕ) (under : Finish) → effect ≡ Begins other function under → ⊥
     pub silent : IsSilent effect
 
   -- the stay with another call frame at the top
@@ -141,6 +143,7 @@ module _ (setting : Setting) (here : ℕ) (far : Far) (m : machine.Place) (key :
       counted = λ none. works_count st t (heap_alone st t store);
       booked = works_books st t (heap_alone st t store);
       works = λ n e. absurd cc;
+      begins_none = λ k f u e. absurd cc;
       silent = silent_works;
     }
 
@@ -162,6 +165,7 @@ module _ (setting : Setting) (here : ℕ) (far : Far) (m : machine.Place) (key :
       counted = λ none. works_count st st (same_count st);
       booked = works_books st st (same_count st);
       works = λ n e. absurd cc;
+      begins_none = λ k f u e. absurd cc;
       silent = silent_works;
     })
 
@@ -186,6 +190,7 @@ module _ (setting : Setting) (here : ℕ) (far : Far) (m : machine.Place) (key :
           booked = works_books st (record st { lines = st.lines ++ prints.printed ∷ [] })
               (record { here = refl; places = refl; ledger = refl; books = refl; opened = refl });
           works = λ n e. absurd cc;
+          begins_none = λ k f u e. absurd cc;
           silent = silent_works;
         })
 
@@ -258,6 +263,7 @@ module _ (setting : Setting) (here : ℕ) (far : Far) (m : machine.Place) (key :
           counted = λ none. subst (λ n. IsCountedBy st (Opens n (innermost here s)) t) (sym opened_is) (opens_count st t (innermost here s) none r);
           booked = (opened_is, r.opened_is, (λ k. r.books_are k ∙ ap (λ n. with_entry (books_in st) n (Some (λ p. zeros)) k) (sym opened_is)));
           works = λ n f. absurd cc;
+          begins_none = λ k f u e. absurd cc;
           silent = silent_opens m.opened (innermost here s);
         }
 
@@ -278,6 +284,7 @@ module _ (setting : Setting) (here : ℕ) (far : Far) (m : machine.Place) (key :
           counted = λ none. closes_count st t made.number made.done r;
           booked = (r.opened_is, r.books_are);
           works = λ n f. absurd cc;
+          begins_none = λ k f u e. absurd cc;
           silent = silent_closes made.number;
         }
 

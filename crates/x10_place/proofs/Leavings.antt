@@ -208,6 +208,7 @@ module _ (far : Far) (p : PlaceState) (m : machine.Place) (stands : StandsFor fa
             (stands.opened ∙ sym r.opened_is) (stands.lines ∙ sym (ap (λ ls. map line_as ls) r.lines)) counted (r.opened_is, r.books_are);
         counted = counted_in (store_of p) t effect counted;
         answers = ((λ n f. absurd cc), record { message = result.goes_back; report = report_of_finish result.back });
+        vacant = λ k f u e. absurd cc;
         texts = (let ret = d.is_ret in adds_none p key a i d.is_there d.fetched (with_stays p slab t) (λ q. absurd cc) (λ q. absurd cc) r.heap);
       }
 

@@ -193,24 +193,19 @@ fresh v slab s id places fits assigned site new = record {
 }
 
 pub opened_first : (p : PlaceState) (slab : Slab StayState) → IsFresh p → p.stays ≡ plain slab
-    → (key : ℕ) × (a : StayState) × IsMain p.program a × HoldsOnly slab key a × (key < 2 ^ 32) → p.id ≡ 0 → Opens p
-opened_first p slab fresh is main e = (
-  main.0,
-  (λ far. subst (λ id. StandsFor far p (opening_place (setting_of p) main.0 id)) (sym e)
-      (first_stands far p main.0 main.1 main.4 e fresh main.2 (subst (λ s. HoldsOnly s main.0 main.1) (sym is)
-      (record { here = main.3.here; others = main.3.others })))),
-)
+    → (a : StayState) × IsMain p.program a × HoldsOnly slab 0 a → p.id ≡ 0 → Opens p
+opened_first p slab fresh is main e far = subst (λ id. StandsFor far p (opening_place (setting_of p) 0 id)) (sym e)
+    (first_stands far p 0 main.0 (omega arith) e fresh main.1 (subst (λ s. HoldsOnly s 0 main.0) (sym is)
+    (record { here = main.2.here; others = main.2.others })))
 
 pub opened_empty : (p : PlaceState) (slab : Slab StayState) → IsFresh p → p.stays ≡ plain slab → slab.slots ≡ [] → (p.id ≡ 0 → ⊥) → Opens p
-opened_empty p slab fresh is slots ne = (
-  0,
-  (λ far. subst (λ b. StandsFor far p (cond b (first_place (setting_of p) 0) (empty_place 0))) (sym (not_zero p.id ne))
-      (empty_stands far p (not_zero p.id ne) fresh (subst (λ s. (k : ℕ) → get s k ≡ None) (sym is)
-      (λ k. ap (λ xs. slice_index_or xs k None) slots)))),
-)
+opened_empty p slab fresh is slots ne far = subst (λ b. StandsFor far p (cond b (first_place (setting_of p) 0) (empty_place 0)))
+    (sym (not_zero p.id ne))
+    (empty_stands far p (not_zero p.id ne) fresh (subst (λ s. (k : ℕ) → get s k ≡ None) (sym is)
+    (λ k. ap (λ xs. slice_index_or xs k None) slots)))
 
 pub opens_standing : (p : PlaceState) → Opens p → IsStanding p
-opens_standing p opens = (opening_place (setting_of p) opens.0 p.id, opens.1 (λ home id class. true))
+opens_standing p opens = (opening_place (setting_of p) 0 p.id, opens (λ home id class. true))
 
 pub is_some_is : {X : Type 0} (o : Option X) → IsSome o → (x : X) × (o ≡ Some x)
 is_some_is (Some x) h = (x, refl)
@@ -218,11 +213,10 @@ is_some_is None h = absurd cc
 
 -- ---- nobody is inside an atomic region
 
-pub main_outside : (program : Module) (slab : Slab StayState) → (key : ℕ) × (a : StayState) × IsMain program a × HoldsOnly slab key a × (key < 2 ^ 32)
-    → IsInsider slab None
-main_outside program slab main k = elim (cases_eq k main.0) [
-  | inl same ↦ ap (inside_at slab) same ∙ ap is_inside main.3.here ∙ main.2.inside
-  | inr apart ↦ ap is_inside (main.3.others k apart)
+pub main_outside : (program : Module) (slab : Slab StayState) → (a : StayState) × IsMain program a × HoldsOnly slab 0 a → IsInsider slab None
+main_outside program slab main k = elim (cases_eq k 0) [
+  | inl same ↦ ap (inside_at slab) same ∙ ap is_inside main.2.here ∙ main.1.inside
+  | inr apart ↦ ap is_inside (main.2.others k apart)
 ]
 
 pub nobody_outside : (slab : Slab StayState) → slab.slots ≡ [] → IsInsider slab None

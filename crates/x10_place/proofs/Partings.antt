@@ -1,5 +1,5 @@
 -- Steps that are for the place to make: what each of them does is a move of each place of the machine.
-use Rattle.std.proofs.Common.{◌≡◌, ℕ, Bool, false, Option, Some, Result, Ok, Err, IfOk, IfErr, refl, sym, ap, subst, ◌∙◌, inl, inr}
+use Rattle.std.proofs.Common.{◌≡◌, ℕ, Bool, false, Option, Some, Result, Ok, Err, IfOk, IfErr, refl, sym, ap, subst, ◌∙◌, inl, inr, None}
 use Rattle.std.specs.Prelude.{OnOk}
 use Rattle.std.proofs.lemmas.Option.{same_Some}
 use Rattle.slab.specs.Slab.{Slab, get, Updates}
@@ -53,7 +53,10 @@ module _ (v : Certified) (old : Slab StayState) (s : StoreState) (key : ℕ) {to
         (begin_leads (place stopped) key new t checks plain_begins (ready_too b.stay b.is_there) h.outside);
     here = b.store.here;
     places = b.store.places_are;
-    parts = λ stopped. inr (inl (record { key = b.other; free = b.free; begun = (b.child, b.now_child) }));
+    parts = λ stopped. inr (inl (record {
+      free = subst (λ k. get old k ≡ None) b.vacant b.free;
+      begun = (b.child, subst (λ k. get new k ≡ Some b.child) b.vacant b.now_child);
+    }));
   })
     where
       plain_begins : BeginsAt v.program (plain old) s key new t
@@ -67,6 +70,7 @@ module _ (v : Certified) (old : Slab StayState) (s : StoreState) (key : ℕ) {to
         goes = b.goes;
         rest = b.rest;
         other = b.other;
+        vacant = b.vacant;
         few = b.few;
         free = b.free;
         child = b.child;

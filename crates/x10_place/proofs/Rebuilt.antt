@@ -12,7 +12,7 @@ use Rattle.x10_model.specs.Places.{Message, Stay}
 use Rattle.x10_model.specs.Deliveries.{Receives}
 use Rattle.x10_model.proofs.Maps.{at_key, off_key}
 use Rattle.x10_finish.proofs.Tallied.{received_tallied}
-use Rattle.x10_place.specs.Receiving.{Admits, IsCountedIn}
+use Rattle.x10_place.specs.Receiving.{Admits, IsCountedIn, IsVacantFor}
 use Rattle.x10_place.specs.Stays.{StayState, StoreState, totals_in, books_of}
 use Rattle.x10_place.specs.StandsFor.{Far, context, context_of, PlaceState, store_of, with_stays, line_as, Assigned, StandsForStay, HoldsExports, StandsFor, AreBooked, setting_of}
 use Rattle.x10_place.proofs.GrownFrames.{stay_kept}
@@ -63,11 +63,12 @@ module _ (far : Far) (p : PlaceState) (m : machine.Place) (h : StandsFor far p m
       | inr ne ↦ up.others k ne ∙ h.keys k le
     ]
 
-    pub admitted : (message : Message) (next : machine.Place) → (2 ^ 32 ≤ key → ⊥) → Receives (setting_of p) p.id m message key next
+    pub admitted : (message : Message) (next : machine.Place) → (2 ^ 32 ≤ key → ⊥) → IsVacantFor p message key
+        → Receives (setting_of p) p.id m message key next
         → next.stays ≡ with_entry m.stays key (Some s) → HoldsHeap after next.cells → HoldsExports t.heap next.exports
         → next.opened ≡ t.opened → next.lines ≡ map line_as t.lines → IsCountedIn (store_of p) message t
         → AreBooked p.id next.stays t.opened (books_of t.books) → Admits far p m message (with_stays p slab t)
-    admitted message next low receives same holds exports opened lines counted booked = record {
+    admitted message next low vacant receives same holds exports opened lines counted booked = record {
       key = key;
       new = next;
       receives = receives;
@@ -85,6 +86,7 @@ module _ (far : Far) (p : PlaceState) (m : machine.Place) (h : StandsFor far p m
         booked = booked;
       };
       counted = record { here = refl; places = refl; totals = counted.totals; kept = counted.kept };
+      vacant = vacant;
     }
       where
         keyed_next : (k : ℕ) → Keyed p.program h.assigned after (get slab k) (next.stays k)

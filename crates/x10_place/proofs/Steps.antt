@@ -162,6 +162,7 @@ module _ (far : Far) (p : PlaceState) (m : machine.Place) (stands : StandsFor fa
             to.now_exported to.opened (to.lines stands.lines) counted to.booked;
         counted = counted_in (store_of p) t to.effect counted;
         answers = (to.works, puts_nothing p.program (context_of far p) (store_of p) to.effect to.silent);
+        vacant = λ k f u e. absurd (to.begins_none k f u e);
         texts = (let made = goes_added (location_of p) a (store_of p) i b t i.op steps in
             adds p key a i found fetched (with_stays p slab t) made.0 made.1 made.2);
       }
@@ -179,6 +180,7 @@ module _ (far : Far) (p : PlaceState) (m : machine.Place) (stands : StandsFor fa
     stands = stands;
     counted = waits_count (store_of p) waits.number;
     answers = (waits.number, refl);
+    vacant = λ k f u e. absurd cc;
     texts = (let fine = is_close_finish i.op e in adds_none p key a i found fetched p (λ q. absurd cc) (λ q. absurd cc) refl);
   }
 
@@ -242,6 +244,7 @@ module _ (far : Far) (p : PlaceState) (m : machine.Place) (stands : StandsFor fa
           puts_nothing p.program (context_of far p) (store_of p) effect
               (silent_begins begins.other i.x (innermost p.id s)),
         );
+        vacant = λ k f u e. (let same : begins.other ≡ k = cc in sym same ∙ begins.vacant);
         texts = (let async = begins.is_async in adds_none p key a i begins.is_there begins.fetched (with_stays p slab t) (λ q. absurd cc)
             (λ q. absurd cc) r.heap);
       }

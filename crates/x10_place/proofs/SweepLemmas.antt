@@ -74,11 +74,14 @@ module _ (key m : ℕ) (p q : PlaceState) (answer : Stepped)
   pub ends_by_sent : (sent : Sent) → answer ≡ stepped.Moved sent → sent ≢ no_sent → EndsSweep key m p sent (m + 1) q
   ends_by_sent sent e some = record { pace = pace_as (stepped.Moved sent) e; parts = inl some; count = refl }
 
-  pub ends_by_begun : (sent : Sent) → answer ≡ stepped.Moved sent → (vacant : ℕ) → get p.stays vacant ≡ None → ContainsKey q.stays vacant
-      → EndsSweep key m p sent (m + 1) q
-  ends_by_begun sent e vacant free begun = record {
+  pub ends_by_begun : (sent : Sent) → answer ≡ stepped.Moved sent → (vacant : ℕ) → vacant ≡ p.stays.vacant_key → get p.stays vacant ≡ None
+      → ContainsKey q.stays vacant → EndsSweep key m p sent (m + 1) q
+  ends_by_begun sent e vacant is free begun = record {
     pace = pace_as (stepped.Moved sent) e;
-    parts = inr (inl (record { key = vacant; free = free; begun = some_of (get q.stays vacant) begun }));
+    parts = inr (inl (record {
+      free = subst (λ k. get p.stays k ≡ None) is free;
+      begun = subst (λ k. (a : StayState) × (get q.stays k ≡ Some a)) is (some_of (get q.stays vacant) begun);
+    }));
     count = refl;
   }
 

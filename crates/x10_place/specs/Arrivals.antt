@@ -115,7 +115,7 @@ pub record IsLaunched (l : Launch) (callee : Function) (words : List ℕ)
   pub inside : c.inside ≡ false
   pub back : c.back ≡ origin_as l.back
 
--- an activity begins with what a frame brings, under a key that was free
+-- an activity begins with what a frame brings, under the key that was the next one
 pub record Launches (program : Module) (old : Slab StayState) (s : StoreState) (f : Frame)
     (l : Launch) (new : Slab StayState) (t : StoreState) : Type 0 where
   pub callee : Function
@@ -126,6 +126,7 @@ pub record Launches (program : Module) (old : Slab StayState) (s : StoreState) (
   pub taken : IsTakenIn program s.here s.heap callee.parameters f roots t.heap
   pub settles : Settles s (graph_of f) l roots t
   pub key : ℕ
+  pub vacant : key ≡ old.vacant_key
   pub free : get old key ≡ None
   pub few : key < 2 ^ 32
   pub child : StayState

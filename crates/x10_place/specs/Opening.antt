@@ -51,10 +51,9 @@ pub record IsNewStore (id places : ℕ) (s : StoreState) : Type 0 where
   pub unopened : (n : ℕ) → s.opened ≤ n → books_in s n ≡ None
   pub root : id ≡ 0 → HasBook (books_in s) 0
 
--- the place stands for the machine's place at the beginning, whatever other places export
+-- the place stands for the machine's place at the beginning, where main has key 0, whatever other places export
 abbrev pub Opens : PlaceState → Type 0
-Opens p = (key : ℕ) × ((far : ℕ → ℕ → ℕ → Bool)
-    → StandsFor far p (opening_place (setting_of p) key p.id))
+Opens p = (far : ℕ → ℕ → ℕ → Bool) → StandsFor far p (opening_place (setting_of p) 0 p.id)
 
 -- a place as it was asked for, with what a place keeps at the beginning
 pub record IsNew (verified : Certified) (id places : ℕ) (p : PlaceState) : Type 0 where

@@ -41,6 +41,11 @@ pub record IsCountedIn (s : StoreState) (message : Message) (t : StoreState) : T
   pub totals : (f : Finish) → totals_in t f ≡ totals_after f (totals_in s f) (Took message)
   pub kept : (n : ℕ) → books_in t n ≡ books_in s n
 
+-- what a message begins has the key that was the next one
+abbrev pub IsVacantFor : PlaceState → Message → ℕ → Type 0
+IsVacantFor p (machine.Back from to waiting graph) key = Unit {0}
+IsVacantFor p message key = key ≡ p.stays.vacant_key
+
 -- a place of the machine that the old state stands for takes the message in, and the new state stands for it then
 pub record Admits (far : Far) (p : PlaceState) (m : machine.Place) (message : Message)
     (q : PlaceState) : Type 0 where
@@ -49,6 +54,7 @@ pub record Admits (far : Far) (p : PlaceState) (m : machine.Place) (message : Me
   pub receives : Receives (setting_of p) p.id m message key new
   pub stands : StandsFor far q new
   pub counted : IsCountedIn (store_of p) message (store_of q)
+  pub vacant : IsVacantFor p message key
 
 -- each place of the machine that the state stands for does, where its global references to objects elsewhere name some
 abbrev pub TakesMessage : PlaceState → Message → PlaceState → Type 0

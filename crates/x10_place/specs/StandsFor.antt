@@ -17,7 +17,7 @@ use Rattle.x10_model.specs.Ranges.{function_at, instr_at}
 use Rattle.x10_model.specs.Assignments.{State}
 use Rattle.x10_model.specs.Places as machine
 use Rattle.x10_model.specs.declared.finish.Finish.{Finish}
-use Rattle.x10_model.specs.Places.{Setting, Origin, Effect, Waits, Closes, Stay, Number, Words}
+use Rattle.x10_model.specs.Places.{Setting, Origin, Effect, Waits, Begins, Closes, Stay, Number, Words}
 use Rattle.x10_model.specs.Totals.{Cut, nothing, Did, totals_after}
 use Rattle.x10_model.specs.Values.{Value}
 use Rattle.x10_verify.specs.Certified.{Certified}
@@ -305,7 +305,7 @@ pub record AddsTexts (p : PlaceState) (key : ℕ) (q : PlaceState) : Type 0 wher
   pub texts_are : q.heap.texts ≡ p.heap.texts ++ texts
 
 -- From a place of the machine that the old state stands for, the move of the activity with the key leads to one that
--- the new state stands for.
+-- the new state stands for. An activity that it begins has the key that was the next one.
 pub record Leads (far : Far) (p : PlaceState) (m : machine.Place) (key : ℕ) (answer : Stepped)
     (q : PlaceState) : Type 0 where
   pub effect : Effect
@@ -314,6 +314,8 @@ pub record Leads (far : Far) (p : PlaceState) (m : machine.Place) (key : ℕ) (a
   pub stands : StandsFor far q new
   pub counted : IsCountedBy (store_of p) effect (store_of q)
   pub answers : Answers far p answer effect
+  pub vacant : (other function : ℕ) (under : Finish) → effect ≡ Begins other function under
+      → other ≡ p.stays.vacant_key
   pub texts : AddsTexts p key q
 
 -- each place of the machine that the state stands for makes such a move

@@ -101,11 +101,10 @@ pub data StridesTo (key : ℕ) (p : PlaceState) : ℕ → Sent → PlaceState �
   finally : (n : ℕ) (q : PlaceState) (sent : Sent) (r : PlaceState) → Strides key p n q
       → IsStride key q sent r → StridesTo key p (n + 1) sent r
 
--- an activity has begun under a key that was free
+-- an activity has begun, under the key that was the next one
 pub record HasBegun (p q : PlaceState) : Type 0 where
-  pub key : ℕ
-  pub free : get p.stays key ≡ None
-  pub begun : (a : StayState) × (get q.stays key ≡ Some a)
+  pub free : get p.stays p.stays.vacant_key ≡ None
+  pub begun : (a : StayState) × (get q.stays p.stays.vacant_key ≡ Some a)
 
 -- the last of so many steps began an activity
 pub record BeginsLast (key : ℕ) (p : PlaceState) (n : ℕ) (q : PlaceState) : Type 0 where
@@ -115,9 +114,18 @@ pub record BeginsLast (key : ℕ) (p : PlaceState) (n : ℕ) (q : PlaceState) : 
   pub strides : Strides key p before last
   pub begins : HasBegun last q
 
+-- the last of so many steps put something out
+pub record SendsLast (key : ℕ) (p : PlaceState) (n : ℕ) (sent : Sent) (q : PlaceState) : Type 0 where
+  pub before : ℕ
+  pub count : n ≡ before + 1
+  pub last : PlaceState
+  pub strides : Strides key p before last
+  pub stride : IsStride key last sent q
+  pub some : sent ≢ no_sent
+
 -- ---- as a place makes them
 
--- an activity begins by the instruction of the stay with a key: that stay goes on, and the new one has a key that was free
+-- an activity begins by the instruction of the stay with a key: that stay goes on, and the new one has the key that was the next one
 pub record BeginsAt (program : Module) (old : Slab StayState) (s : StoreState) (key : ℕ)
     (new : Slab StayState) (t : StoreState) : Type 0 where
   pub stay : StayState
@@ -129,6 +137,7 @@ pub record BeginsAt (program : Module) (old : Slab StayState) (s : StoreState) (
   pub goes : GoesNext stay.top next.top
   pub rest : next ≡ record stay { top = next.top }
   pub other : ℕ
+  pub vacant : other ≡ old.vacant_key
   pub few : other < 2 ^ 32
   pub free : get old other ≡ None
   pub child : StayState

@@ -1,6 +1,5 @@
 //! The stays with which a place begins.
-ghost use Rattle.std.specs.Prelude.{◌≡◌, ◌<◌, ◌^◌, ℕ, IfOk, None};
-ghost use Rattle.slab.specs.Slab.{get};
+ghost use Rattle.std.specs.Prelude.{IfOk};
 ghost use Rattle.x10_place.specs.Opening.{IsMain, HoldsOnly};
 ghost use Rattle.x10_place.specs.Stays.{StayState};
 
@@ -33,10 +32,10 @@ fn main(alloc: Global, verified: &Verified) -> Result<Stay, AllocError>
     })
 }
 
-/// Main alone, under some key.
+/// Main alone, under key 0.
 pub(crate) fn with_main(alloc: Global, verified: &Verified) -> Result<Slab<Stay>, AllocError>
-    ensures { IfOk result (λ slab. (key : ℕ) × (a : StayState) × IsMain verified.now.program a
-        × HoldsOnly slab key a × (key < 2 ^ 32)) }
+    ensures { IfOk result (λ slab. (a : StayState) × IsMain verified.now.program a
+        × HoldsOnly slab 0 a) }
 {
     let mut stays = Slab::new(alloc);
     let main = main(alloc, verified)?;

@@ -2,6 +2,8 @@
 ghost use Rattle.std.specs.Prelude.{◌≡◌, ◌≢◌, ℕ, true, IfOk, IfErr, Err};
 ghost use Rattle.x10_kinds.specs.declared.stop.Stop.TheVariants as stop;
 ghost use Rattle.x10_world.specs.declared.rounds.Unfinished.TheVariants as halt;
+ghost use Rattle.x10_schedule.specs.declared.schedule.Schedule.TheVariants as schedules;
+ghost use Rattle.x10_schedule.specs.Schedules.{ActsBy};
 ghost use Rattle.x10_world.specs.Queries.{IsClosed};
 ghost use Rattle.x10_world.specs.Rounds.{NoneIsLeft, RunsTo, IsHalted, HasMade};
 
@@ -26,6 +28,8 @@ pub fn run_by(
     ensures ended { IfOk result (λ _. NoneIsLeft world.new) }
     ensures closed { IfOk result (λ _. IsClosed world.new.places) }
     ensures halted { world.old.stopped ≢ true → IfErr result (IsHalted world.old limit world.new) }
+    ensures acts { schedule ≢ schedules.Rounds → world.old.stopped ≢ true
+        → ActsBy world.old limit result world.new }
     ensures stopped { world.old.stopped ≡ true → (result ≡ Err (halt.Stop stop.Stopped))
         × (world.new ≡ world.old) }
 {
@@ -43,5 +47,5 @@ pub fn run_by(
             return Ok(());
         }
     }
-    Err(Unfinished::Limit)
+    world.at_limit(limit)
 }

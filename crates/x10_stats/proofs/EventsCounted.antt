@@ -1,26 +1,82 @@
 -- Events that are counted, one after another.
-use Rattle.std.proofs.Common.{◌≡◌, ℕ, zero, suc, ◌+◌, ◌-◌, ◌<◌, ◌^◌, ◌==◌, Bool, true, false, List, [], ◌∷◌, ◌++◌, Option, Some, None, length, refl, sym, ap, subst, ◌∙◌, arith}
-use Rattle.std.specs.Prelude.{slice_get, if◌then◌else◌}
+use Rattle.std.proofs.Common.{◌≡◌, ℕ, zero, suc, ◌+◌, ◌-◌, ◌<◌, ◌^◌, ◌==◌, Bool, true, false, List, [], ◌∷◌, ◌++◌, Option, Some, None, length, refl, sym, ap, subst, ◌∙◌, arith, Result, Ok, Err, IfErr, inl, inr, ◌≢◌, unwrap_or}
+use Rattle.std.specs.Prelude.{⊤, IfOk, IfSome, slice_get, if◌then◌else◌}
+use Rattle.std.specs.Result.{IsErrAnd}
 use Rattle.std.proofs.lemmas.List.{length-append}
 use Rattle.x10_flights.specs.Flights.{Flight, FlightsState, flight_of}
 use Rattle.x10_model.specs.Worlds.{World}
 use Rattle.x10_model.specs.declared.event.Event.{Event}
-use Rattle.x10_world.specs.Happenings.{HasDone}
+use Rattle.x10_schedule.specs.declared.schedule.Schedule.{Schedule}
+use Rattle.x10_schedule.specs.declared.schedule.Schedule.TheVariants as schedules
+use Rattle.x10_world.specs.Happenings.{CanHappen, HasDone, NothingCanHappen}
+use Rattle.x10_world.specs.Rounds.{IsOpenAt}
 use Rattle.x10_world.specs.StandsForWorld.{WorldState, StandsForWorld, MakesEvent}
 use Rattle.x10_world.specs.declared.done.Done.{Done}
 use Rattle.x10_world.specs.declared.done.Done.TheVariants as done
 use Rattle.x10_world.specs.declared.rounds.Unfinished.{Unfinished}
 use Rattle.x10_world.specs.declared.rounds.Unfinished.TheVariants as halt
-use Rattle.x10_stats.specs.Counts.{Counted, CountsState, HasCounted, IsCut, IsUnmade, counted_with}
+use Rattle.x10_stats.specs.Counts.{Counted, CountsDue, CountsState, EachIsDue, HasCounted, HasCountedDue, IsCut, IsDue, IsUnmade, counted_with}
 use Rattle.x10_stats.specs.Counts.Counted.{begins, goes_on}
 use Rattle.x10_stats.specs.Stats.{all_events, counted, sum, with_any_type, with_flight, with_flights, with_posted, with_type}
 use Rattle.x10_stats.specs.declared.stats.Stats.{Stats}
 
-pub counts_more : (s : CountsState) (x y z : WorldState) (events : List Event) (t u : CountsState) (event : Event) → Counted s x events t y
+pub if_ok : {T E : Type 0} (r : Result T E) (P : Type 0) → P → IfOk r (λ _. P)
+if_ok (Ok t) P h = h
+if_ok (Err e) P h = tt
+
+-- one event more, which could happen if those before it could
+pub counts_more : (s : CountsState) (x y z : WorldState) (events : List Event) (t u : CountsState) (event : Event) (before : Counted s x events t y)
     → ((did : Done) × HasDone y event did z × (u ≡ counted_with t y event did z))
-    → ((w : World) → StandsForWorld y w → MakesEvent y w event z) → Counted s x (events ++ event ∷ []) u z
-counts_more s x y z events t u event before one makes = subst (λ v. Counted s x (events ++ event ∷ []) v z) (sym one.2)
-    (goes_on y z events t event one.0 before one.1 makes)
+    → ((w : World) → StandsForWorld y w → MakesEvent y w event z)
+    → (c : Counted s x (events ++ event ∷ []) u z)
+    × (EachIsDue s x events t y before → IsDue y event → EachIsDue s x (events ++ event ∷ []) u z c)
+counts_more s x y z events t u event before one makes =
+    subst (λ v. (c : Counted s x (events ++ event ∷ []) v z)
+    × (EachIsDue s x events t y before → IsDue y event → EachIsDue s x (events ++ event ∷ []) v z c)) (sym one.2)
+    (goes_on y z events t event one.0 before one.1 makes, (λ each due. (due, each)))
+
+-- what a scheduler names could happen, and where it names nothing, nothing could
+pub due_by : (asked : Schedule) (x : WorldState) (o : Option Event) (event other : Event) → asked ≢ schedules.Rounds
+    → (asked ≢ schedules.Rounds → IfSome o (CanHappen x)) → (o ≡ None → NothingCanHappen x) → event ≡ unwrap_or o other → IsDue x event
+due_by asked x None event other not able none is = inr (none refl)
+due_by asked x (Some e) event other not able none is = inl (subst (λ v. CanHappen x v) (sym is) (able not))
+
+-- why no more are counted, where those before could happen
+pub due_cut : (s : CountsState) (x : WorldState) (limit : ℕ) (t u : CountsState) (y z : WorldState) (event : Event) (r : Result ⊤ Unfinished)
+    (why : Unfinished) → HasCountedDue s x limit t y → IsUnmade t y event u z why → IsErrAnd r (λ made. made ≡ why) → CountsDue s x limit u r z
+due_cut s x limit t u y z event (Ok v) why has unmade e = absurd e
+due_cut s x limit t u y z event (Err w) halt.Limit has unmade e = absurd unmade
+due_cut s x limit t u y z event (Err w) halt.Memory has unmade e = subst (λ v. CountsDue s x limit u (Err v) z) (sym e)
+    (subst (λ v. HasCountedDue s x limit u v) (sym unmade.1) (subst (λ v. HasCountedDue s x limit v y) (sym unmade.0) has))
+due_cut s x limit t u y z event (Err w) (halt.Stop why) has unmade e = subst (λ v. CountsDue s x limit u (Err v) z) (sym e) (record {
+  stopped = record {
+    state = y;
+    counts = t;
+    has = has.has;
+    event = event;
+    stops = unmade.1;
+    same = unmade.0;
+  };
+  due = has.due;
+})
+
+pub due_refused : (s : CountsState) (x : WorldState) (limit : ℕ) (t : CountsState) (y : WorldState) (r : Result ⊤ Unfinished)
+    → HasCountedDue s x limit t y → IsErrAnd r (λ made. made ≡ halt.Memory) → CountsDue s x limit t r y
+due_refused s x limit t y (Ok v) has e = absurd e
+due_refused s x limit t y (Err w) has e = subst (λ v. CountsDue s x limit t (Err v) y) (sym e) has
+
+-- as many were made as were allowed
+pub due_limit : (s : CountsState) (x : WorldState) (limit : ℕ) (t : CountsState) (y : WorldState) (r : Result ⊤ Unfinished)
+    (has : HasCountedDue s x limit t y) → length has.has.events ≡ limit → IfErr r (λ why. (why ≡ halt.Limit) × IsOpenAt limit y)
+    → CountsDue s x limit t r y
+due_limit s x limit t y (Ok v) has all h = has
+due_limit s x limit t y (Err w) has all h = subst (λ v. CountsDue s x limit t (Err v) y) (sym h.0) (has, all)
+
+pub cut_limit : {T : Type 0} (s : CountsState) (x : WorldState) (limit : ℕ) (t : CountsState) (y : WorldState) (r : Result T Unfinished)
+    (has : HasCounted s x limit t y) → length has.events ≡ limit → IfErr r (λ why. (why ≡ halt.Limit) × IsOpenAt limit y)
+    → IfErr r (IsCut s x limit t y)
+cut_limit s x limit t y (Ok v) has all h = tt
+cut_limit s x limit t y (Err w) has all h = subst (λ v. IsCut s x limit t y v) (sym h.0) (has, (all, h.1))
 
 pub one_longer : (events : List Event) (event : Event) (n : ℕ) → length events ≡ n → length (events ++ event ∷ []) ≡ n + 1
 one_longer events event n e = length-append events (event ∷ []) ∙ ap (λ k. k + 1) e

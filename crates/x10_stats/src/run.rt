@@ -8,7 +8,8 @@ ghost use Rattle.x10_world.specs.Happenings.{HasDone};
 ghost use Rattle.x10_world.specs.Queries.{IsClosed};
 ghost use Rattle.x10_world.specs.Rounds.{NoneIsLeft, RunsTo};
 ghost use Rattle.x10_world.specs.StandsForWorld.{StandsForWorld, MakesEvent};
-ghost use Rattle.x10_stats.specs.Counts.{HasCounted, IsCut, IsUnmade, counted_with};
+ghost use Rattle.x10_schedule.specs.declared.schedule.Schedule.TheVariants as schedules;
+ghost use Rattle.x10_stats.specs.Counts.{CountsDue, HasCounted, IsCut, IsUnmade, counted_with};
 
 use crate::counts::Counts;
 use crate::sight::look;
@@ -39,6 +40,8 @@ pub fn count_run(
     ensures closed { IfOk result (λ _. IsClosed world.new.places) }
     ensures cut { world.old.stopped ≢ true → IfErr result
         (IsCut counts.old world.old limit counts.new world.new) }
+    ensures due { schedule ≢ schedules.Rounds → world.old.stopped ≢ true
+        → CountsDue counts.old world.old limit counts.new result world.new }
     ensures stopped { world.old.stopped ≡ true → (result ≡ Err (halt.Stop stop.Stopped))
         × (world.new ≡ world.old) × (counts.new ≡ counts.old) }
 {
@@ -51,7 +54,7 @@ pub fn count_run(
             return Ok(());
         }
     }
-    Err(Unfinished::Limit)
+    world.at_limit(limit)
 }
 
 /// Makes an event, and counts what it did. Room for the stay that it may begin is made first: so nothing is refused after the

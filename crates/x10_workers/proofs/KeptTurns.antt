@@ -13,8 +13,9 @@ use Rattle.x10_workers.specs.declared.halt.Halt.{Halt}
 use Rattle.x10_workers.specs.declared.trail.Kept.{Kept}
 use Rattle.x10_workers.specs.declared.trail.OwnTurn.{OwnTurn}
 use Rattle.x10_workers.specs.declared.trail.Trail.{Trail}
+use Rattle.x10_workers.specs.Causes.{AreAllEnds}
 use Rattle.x10_workers.specs.Trails.{TrailLeads, trail_of}
-use Rattle.x10_workers.specs.Workings.{IsTrailOf, IsKeptOf, AreEnds, AreAllKept, AreTrailsOf, WorksOn, IsKeptWhole}
+use Rattle.x10_workers.specs.Workings.{IsTrailOf, IsKeptOf, AreAllKept, AreTrailsOf, WorksOn, IsKeptWhole}
 use Rattle.x10_workers.proofs.ReplayFaults.{front, behind}
 
 -- each with what it kept
@@ -32,7 +33,7 @@ ended_at (u ∷ us) (suc id) t is = ended_at us id t is
 
 -- where all workers have ended, this is what they kept
 pub trails_of : (c : Certified) (places : ℕ) (ends rest : List (Result Kept Halt)) (trails : List Kept) → ends ≡ all_ended trails ++ rest → rest ≡ []
-    → AreEnds c places ends → AreAllKept c places trails
+    → AreAllEnds c places ends → AreAllKept c places trails
 trails_of c places ends rest trails are none ended = record {
   count = sym (ap length same ∙ length_ended trails) ∙ ended.count;
   each = λ id t is. ended.each id (Ok t) (ap (λ es. slice_get es id) same ∙ ended_at trails id t is);

@@ -8,3 +8,5 @@ mod LogRuns
 mod KeptTurns
 mod ReplayFaults
 mod ReportLines
+mod ShortTurns
+mod CauseLemmas

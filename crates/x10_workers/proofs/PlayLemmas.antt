@@ -104,7 +104,6 @@ played c count log outputs x y opened plays closed over lines = record {
   opened = opened;
   plays = plays;
   closed = closed;
-  key = key;
   last = made.last;
   run = run;
   stands = made.stands;
@@ -113,18 +112,15 @@ played c count log outputs x y opened plays closed over lines = record {
   lines = subst (λ ls. AreLinesOf ls made.last) (sym lines) (lines_are y made.last made.stands);
 }
   where
-    key : ℕ
-    key = opened.stands.0
-
-    made : RunsTo x (opening (setting_of_world x) key) (events_in log) y
-    made = runs_plays x y (opening (setting_of_world x) key) log opened.stands.1 plays
+    made : RunsTo x (opening (setting_of_world x) 0) (events_in log) y
+    made = runs_plays x y (opening (setting_of_world x) 0) log opened.stands plays
 
     setting : setting_of_world x ≡ record { program = c.program; places = count }
     setting = ap (λ m. record { program = m; places = length x.places }) opened.program
         ∙ ap (λ n. record { program = c.program; places = n }) opened.places.count_is
 
     run : Run Ideal (record { program = c.program; places = count }) (WithinBounds c.bounds)
-        (opening (record { program = c.program; places = count }) key) (events_in log) made.last
-    run = subst (λ s. Run Ideal s (WithinBounds c.bounds) (opening s key) (events_in log) made.last) setting
-        (subst (λ bs. Run Ideal (setting_of_world x) (WithinBounds bs) (opening (setting_of_world x) key) (events_in log) made.last) opened.bounds
+        (opening (record { program = c.program; places = count }) 0) (events_in log) made.last
+    run = subst (λ s. Run Ideal s (WithinBounds c.bounds) (opening s 0) (events_in log) made.last) setting
+        (subst (λ bs. Run Ideal (setting_of_world x) (WithinBounds bs) (opening (setting_of_world x) 0) (events_in log) made.last) opened.bounds
         made.run)

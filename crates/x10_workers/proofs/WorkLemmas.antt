@@ -3,7 +3,7 @@ use Rattle.std.proofs.Common.{◌≡◌, ◌≢◌, ℕ, zero, suc, ◌+◌, Lis
 use Rattle.std.specs.Prelude.{◌≤◌, Bool, Result, Ok, IfOk, length, false, Option, Some, None, MatchOption, MatchResult, replicate, take, drop, slice_get, slice_set}
 use Rattle.std.specs.Borrow.{Bor}
 use Rattle.std.proofs.lemmas.Option.{same_Some, slice_get-map, slice_get_within, get_or_from_slice_get}
-use Rattle.std.proofs.lemmas.List.{append-nil, append_assoc, map-append, map-set, take_more}
+use Rattle.std.proofs.lemmas.List.{append-nil, append_assoc, length-append, length-map, map-append, map-set, take_more}
 use Rattle.slab.specs.Slab.{get}
 use Rattle.x10_kinds.specs.declared.stop.Stop.{Stop}
 use Rattle.x10_place.specs.declared.place.Stepped.{Stepped}
@@ -17,6 +17,7 @@ use Rattle.x10_hall.specs.declared.turn.Posted.{Posted}
 use Rattle.x10_hall.specs.declared.turn.Taken.{Taken}
 use Rattle.x10_hall.specs.declared.turn.Turn.{Turn}
 use Rattle.x10_hall.specs.Halls.{PostedFrame, Numbered, frame_of, told}
+use Rattle.x10_hall.specs.declared.limits.TheConstants.{MOST_TAKEN, MOST_STEPS}
 use Rattle.x10_workers.specs.declared.trail.OwnTurn.{OwnTurn}
 use Rattle.x10_workers.specs.declared.trail.Trail.{Trail}
 use Rattle.x10_model.proofs.Found.{head_is}
@@ -47,12 +48,18 @@ steps_more p q r (k ∷ ks) others frames out led more = (
   steps_more led.2 q r ks others led.1 out led.5 more,
 )
 
+-- ---- steps of a turn, which are at most 64
+
+pub few_appended : (old more new : List ℕ) (n : ℕ) → new ≡ old ++ more → length more ≤ n → length old + n ≤ 64 → length new ≤ MOST_STEPS
+few_appended old more new n is few room = let long = ap length is in
+    omega (arith, long, length-append old more, few, room)
+
 -- one step
 pub step_alone : (p q : PlaceState) (key : ℕ) (answer : Stepped) → StepsBy p key answer q → StepsEach p (key ∷ []) (frames_out answer) q
 step_alone p q key answer one = (answer, [], q, sym (append-nil (frames_out answer)), one, (refl, refl))
 
 -- a stretch of steps of one activity
-strides_each : (key : ℕ) (p : PlaceState) (n : ℕ) (q : PlaceState) → Strides key p n q → StepsEach p (replicate n key) [] q
+pub strides_each : (key : ℕ) (p : PlaceState) (n : ℕ) (q : PlaceState) → Strides key p n q → StepsEach p (replicate n key) [] q
 strides_each key p n q (at_once) = (refl, refl)
 strides_each key p n q (onward k r s far stride) =
     subst (λ ks. StepsEach p ks [] q) (sym (replicate_more k key))
@@ -124,6 +131,11 @@ alike_leads p q like own a led = record {
   steps = subst (λ fs. StepsEach led.middle like.keys fs q) (sym a.frames) (subst (λ ks. StepsEach led.middle ks (map frame_of own.frames.items) q)
       (sym a.keys) led.steps);
   printed = led.printed ∙ sym a.lines;
+  short = record {
+    few_taken = subst (λ n. n ≤ MOST_TAKEN) (sym (sym (length-map like.taken.items told) ∙ ap length a.taken ∙ length-map own.taken.items told))
+        led.short.few_taken;
+    few_keys = subst (λ ks. length ks ≤ MOST_STEPS) (sym a.keys) led.short.few_keys;
+  };
 }
 
 -- one turn was made, and kept

@@ -6,3 +6,4 @@ pub mod Trails
 pub mod Weaves
 pub mod Looms
 pub mod Workings
+pub mod Causes

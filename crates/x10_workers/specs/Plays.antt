@@ -99,10 +99,9 @@ pub record IsPlayed (c : Certified) (count : ℕ) (log : List Turn)
   pub opened : IsOpenedWorld c count first
   pub plays : Plays first log final
   pub closed : IsClosed final.places
-  pub key : ℕ
   pub last : World
   pub run : Run Ideal (record { program = c.program; places = count }) (WithinBounds c.bounds)
-      (opening (record { program = c.program; places = count }) key)
+      (opening (record { program = c.program; places = count }) 0)
       (events_in log) last
   pub stands : StandsForWorld final last
   pub over : IsOver last

@@ -1,5 +1,5 @@
 -- What a place keeps of what it did: turns that lead from its beginning to where it is.
-use Rattle.std.specs.Prelude.{◌≡◌, ◌≢◌, ◌↔◌, ℕ, Bool, List, [], ◌∷◌, ◌++◌, Option, Some, None, IsTrue, true, length, map, drop}
+use Rattle.std.specs.Prelude.{◌≡◌, ◌≢◌, ◌↔◌, ◌≤◌, ℕ, Bool, List, [], ◌∷◌, ◌++◌, Option, Some, None, IsTrue, true, length, map, drop}
 use Rattle.x10_verify.specs.Certified.{Certified}
 use Rattle.x10_place.specs.declared.line.Line as place_line
 use Rattle.x10_place.specs.declared.place.Stepped.{Stepped}
@@ -11,6 +11,7 @@ use Rattle.x10_place.specs.StandsFor.{PlaceState, store_of, line_as, Keeps}
 use Rattle.x10_place.specs.Stays.{IsDoneHere}
 use Rattle.x10_place.specs.Stretches.{IsStride}
 use Rattle.x10_hall.specs.Halls.{PostedFrame, Numbered, frame_of, told}
+use Rattle.x10_hall.specs.declared.limits.TheConstants.{MOST_TAKEN, MOST_STEPS}
 use Rattle.x10_world.specs.Opening.{IsOpenedPlace, IsForbidden}
 use Rattle.x10_world.specs.StandsForWorld.{IsMadeStep}
 use Rattle.x10_workers.specs.declared.trail.Kept.{Kept}
@@ -55,12 +56,18 @@ StepsEach p (key ∷ keys) frames q = (answer : Stepped) × (rest : List PostedF
     × (r : PlaceState) × (frames ≡ frames_out answer ++ rest) × StepsBy p key answer r
     × StepsEach r keys rest q
 
+-- a turn takes so many frames, and makes so many steps, at most
+pub record IsShort (taken keys : ℕ) : Type 0 where
+  pub few_taken : taken ≤ MOST_TAKEN
+  pub few_keys : keys ≤ MOST_STEPS
+
 -- A turn of a place: it takes frames in, then makes steps; these put out and print what the turn says.
 pub record TurnLeads (p : PlaceState) (t : OwnTurn) (q : PlaceState) : Type 0 where
   pub middle : PlaceState
   pub takes : TakesEach p (map told t.taken.items) middle
   pub steps : StepsEach middle t.keys (map frame_of t.frames.items) q
   pub printed : map line_as (drop (length p.lines) q.lines) ≡ map line_as t.lines.items
+  pub short : IsShort (length t.taken.items) (length t.keys)
 
 -- turns, one after another
 abbrev pub TrailLeads : PlaceState → List OwnTurn → PlaceState → Type 0

@@ -1,5 +1,5 @@
 -- How the turns of a log are found in the trails of its places.
-use Rattle.std.specs.Prelude.{◌≡◌, ℕ, ◌+◌, ◌≤◌, List, [], ◌∷◌, ◌++◌, Option, Some, None, MatchOption, IsTrue, false}
+use Rattle.std.specs.Prelude.{◌≡◌, ℕ, ◌+◌, ◌<◌, ◌≤◌, List, [], ◌∷◌, ◌++◌, Option, Some, None, MatchOption, IsTrue, false}
 use Rattle.std.specs.Prelude.{length, map, replicate, take, slice_get, slice_set}
 use Rattle.x10_kinds.specs.declared.stop.Stop.TheVariants as stop
 use Rattle.x10_place.specs.StandsFor.{line_as}
@@ -9,6 +9,7 @@ use Rattle.x10_workers.specs.declared.fault.AuditFault.{AuditFault}
 use Rattle.x10_workers.specs.declared.fault.AuditFault.TheVariants as fault
 use Rattle.x10_workers.specs.declared.trail.OwnTurn.{OwnTurn}
 use Rattle.x10_workers.specs.declared.trail.Trail.{Trail}
+use Rattle.x10_workers.specs.Trails.{IsShort}
 
 -- how many turns of each trail are in the log so far, and the frames that were posted, each under its number until it is taken
 pub record Woven : Type 0 where
@@ -64,6 +65,14 @@ pub record Weaves (trails : List Trail) (x : Woven) (t : Turn) (y : Woven) : Typ
     cursors = slice_set x.cursors t.place (cursor + 1);
     flying = middle ++ all_flying (map frame_of t.frames.items);
   }
+
+-- a turn of a log is of one of so many places, and no longer than a turn may be
+pub record IsWithin (places : ℕ) (t : Turn) : Type 0 where
+  pub place : t.place < places
+  pub short : IsShort (length t.taken.items) (length t.keys)
+
+abbrev pub AreWithin : ℕ → List Turn → Type 0
+AreWithin places log = (at : ℕ) (t : Turn) → slice_get log at ≡ Some t → IsWithin places t
 
 -- turns of a log, one after another
 pub data WeavesAll (trails : List Trail) (x : Woven) : List Turn → Woven → Type 0 where

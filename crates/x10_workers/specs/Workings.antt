@@ -1,11 +1,11 @@
 -- What the workers of a run hand over, and what they do while they are at work.
-use Rattle.std.specs.Prelude.{◌≡◌, ◌≢◌, ◌↔◌, ℕ, ◌<◌, List, [], ◌∷◌, ◌++◌, Some, Result, IfOk, IsTrue, true, false, length, map, slice_get}
+use Rattle.std.specs.Prelude.{◌≡◌, ◌≢◌, ◌↔◌, ℕ, ◌<◌, ◌≤◌, List, [], ◌∷◌, ◌++◌, Some, Result, IfOk, IsTrue, true, false, length, map, slice_get}
 use Rattle.x10_verify.specs.Certified.{Certified}
 use Rattle.x10_place.specs.StandsFor.{PlaceState, store_of, line_as}
 use Rattle.x10_place.specs.Stays.{IsDoneHere}
 use Rattle.x10_hall.specs.Halls.{PostedFrame, frame_of, told}
+use Rattle.x10_hall.specs.declared.limits.TheConstants.{MOST_STEPS}
 use Rattle.x10_hall.specs.Repetitions.{IsLast}
-use Rattle.x10_workers.specs.declared.halt.Halt.{Halt}
 use Rattle.x10_workers.specs.declared.trail.Kept.{Kept}
 use Rattle.x10_workers.specs.declared.trail.OwnTurn.{OwnTurn}
 use Rattle.x10_workers.specs.declared.trail.Trail.{Trail}
@@ -32,12 +32,6 @@ pub record IsKeptOf (c : Certified) (places id : ℕ) (kept : Kept) : Type 0 whe
   pub id_is : kept.id ≡ id
   pub trail : IsTrail (trail_of c places kept)
 
--- how the workers of so many places ended, by place: each with what it kept, or not
-pub record AreEnds (c : Certified) (places : ℕ) (ends : List (Result Kept Halt)) : Type 0 where
-  pub count : length ends ≡ places
-  pub each : (id : ℕ) (end : Result Kept Halt) → slice_get ends id ≡ Some end
-      → IfOk end (IsKeptOf c places id)
-
 -- what was kept of each of so many places
 pub record AreAllKept (c : Certified) (places : ℕ) (kept : List Kept) : Type 0 where
   pub count : length kept ≡ places
@@ -45,13 +39,14 @@ pub record AreAllKept (c : Certified) (places : ℕ) (kept : List Kept) : Type 0
 
 -- ---- while a worker is at work
 
--- More steps of a turn, told behind those before. Where nothing has moved so far, the place is as it was.
+-- More steps of a turn, told behind those before, within the most of a turn. Where nothing has moved so far, the place is as it was.
 pub record AddsSteps (p : PlaceState) (old : Steps) (q : PlaceState) (new : Steps) : Type 0 where
   pub more : List ℕ
   pub out : List PostedFrame
   pub steps : StepsEach p more out q
   pub goes : q.stopped ≢ true
   pub keys : new.keys ≡ old.keys ++ more
+  pub few : length new.keys ≤ MOST_STEPS
   pub frames : map frame_of new.frames.items ≡ map frame_of old.frames.items ++ out
   pub still : new.moved ≡ false → (old.moved ≡ false) × (q ≡ p)
 

@@ -1,7 +1,8 @@
 //! Jobs, each in a thread of its own.
-ghost use Rattle.std.specs.Prelude.{◌≡◌, ℕ, ◌<◌, IfOk, Some, Result, length, slice_get, vec_len};
+ghost use Rattle.std.specs.Prelude.{◌≡◌, ℕ, ◌<◌, IfErr, IfOk, Some, Result, length, slice_get, vec_len};
 ghost use Rattle.x10_workers.specs.declared.halt.Halt as halt;
 ghost use Rattle.x10_workers.specs.declared.trail.Kept as kept;
+ghost use Rattle.x10_workers.specs.Reports.{IsOfRun};
 
 use crate::halt::Halt;
 use crate::trail::Kept;
@@ -65,7 +66,9 @@ impl<'j, J: Job> Promise<Result<Kept, Halt>> for Given<'j, J> {
 }
 
 /// Stops all work, after a failure.
-fn stopped(job: &impl Job, failure: Failure) -> Failure {
+fn stopped(job: &impl Job, failure: Failure) -> Failure
+    ensures { result ≡ failure }
+{
     job.stop();
     failure
 }
@@ -81,6 +84,7 @@ pub(crate) fn make_all<R: Threads + Wait + Sync, J: Job + Sync>(
     ensures count { IfOk result (λ ends. length ends.items ≡ count) }
     ensures each { IfOk result (λ ends. (id : ℕ) (end : Result kept.Kept halt.Halt)
         → slice_get ends.items id ≡ Some end → J.gives job.now id end) }
+    ensures failure { IfErr result IsOfRun }
 {
     let mut handles = Vec::with_capacity(alloc, usize::from(count))?;
     thread::scope(
@@ -91,6 +95,7 @@ pub(crate) fn make_all<R: Threads + Wait + Sync, J: Job + Sync>(
             ensures count { IfOk result (λ ends. length ends.items ≡ count) }
             ensures each { IfOk result (λ ends. (id : ℕ) (end : Result kept.Kept halt.Halt)
                 → slice_get ends.items id ≡ Some end → J.gives job.entry.now id end) }
+            ensures failure { IfErr result IsOfRun }
         {
             for id in 0..count {
                 let started = scope.spawn_with(

@@ -1,4 +1,6 @@
 //! The order of a place's steps.
+ghost use Rattle.std.specs.Prelude.{◌≤◌, IfOk, length};
+
 use crate::key_set::KeySet;
 use std::alloc::{AllocError, Global};
 use x10_place::Place;
@@ -64,7 +66,9 @@ impl StepOrder {
         key: usize,
         most: usize,
         round: &mut Vec<usize>,
-    ) -> Result<(), AllocError> {
+    ) -> Result<(), AllocError>
+        ensures few { IfOk result (λ _. length round.new.items ≤ most) }
+    {
         round.clear();
         let mut next = key;
         for _ in 0..most.min(self.ready.len()) {

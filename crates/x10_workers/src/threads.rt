@@ -1,9 +1,11 @@
 //! A thread for each place.
-ghost use Rattle.std.specs.Prelude.{◌≡◌, ◌≢◌, ◌<◌, ◌≤◌, ◌↔◌, ℕ, IfOk, IfErr, IsErrOf, length};
-ghost use Rattle.x10_workers.specs.Reports.{IsTold};
+ghost use Rattle.std.specs.Prelude.{◌≡◌, ◌≢◌, ◌<◌, ◌≤◌, ◌↔◌, ℕ, IfOk, IfErr, IfSome, IsErrOf, length};
+ghost use Rattle.x10_workers.specs.Reports.{IsTold, TellsFailure};
 ghost use Rattle.x10_workers.specs.declared.halt.WorkFault.TheVariants as fault;
 ghost use Rattle.x10_workers.specs.Plays.{IsPlayed};
-ghost use Rattle.x10_workers.specs.Workings.{AreTrails, AreEnds, AreAllKept, AreTrailsOf};
+ghost use Rattle.x10_workers.specs.Weaves.{AreWithin};
+ghost use Rattle.x10_workers.specs.Causes.{AreAllEnds, IsCausedAt, IsFailureOf};
+ghost use Rattle.x10_workers.specs.Workings.{AreTrails, AreAllKept, AreTrailsOf};
 ghost use Rattle.x10_verify.specs.Certified.{Certified};
 ghost use Rattle.x10_world.specs.Endings.{lines_in};
 ghost use Rattle.x10_world.specs.Opening.{IsForbidden};
@@ -36,12 +38,12 @@ struct Workers<'w, 'i, R: Wait, G: Gate> {
 }
 
 impl<R: Wait, G: Gate> Job for Workers<'_, '_, R, G> {
-    ghost use Rattle.std.specs.Prelude.{◌<◌, ◌≤◌, IfOk};
-    ghost use Rattle.x10_workers.specs.Workings.{IsKeptOf};
+    ghost use Rattle.std.specs.Prelude.{◌<◌, ◌≤◌};
+    ghost use Rattle.x10_workers.specs.Causes.{IsEndOf};
 
     ghost asks = { λ w id. (id < w.places) × (w.verified.now.program.least_places ≤ w.places) × (w.places ≤ 64) };
 
-    ghost gives = { λ w id end. IfOk end (IsKeptOf w.verified.now w.places id) };
+    ghost gives = { λ w id end. IsEndOf w.verified.now w.places id end };
 
     fn make(&self, id: u16) -> Result<Kept, Halt> {
         let desk = Desk::new(self.rt, self.mail);
@@ -62,24 +64,33 @@ impl<R: Wait, G: Gate> Job for Workers<'_, '_, R, G> {
     }
 }
 
-/// The first failure that is a worker's own.
-fn first_failure(ends: &[Result<Kept, Halt>]) -> Option<Failure> {
-    let mut place: u16 = 0;
-    for end in ends {
-        match end {
-            Err(halt) if *halt != Halt::Ended => return Some(Failure::Worker(place, *halt)),
-            _ => place = place.saturating_add(1),
+/// The first failure that is a worker's own, of the workers of so many places.
+fn first_failure(places: u16, ends: &[Result<Kept, Halt>]) -> Option<Failure>
+    ensures { (c : Certified) (count : ℕ) → AreAllEnds c count ends.now
+        → IfSome result (IsFailureOf c count) }
+{
+    for place in 0..places {
+        if let Some(Err(halt)) = ends.get(usize::from(place)) {
+            if *halt != Halt::Ended {
+                return Some(Failure::Worker(place, *halt));
+            }
         }
     }
     None
 }
 
 /// What all workers kept, or why one of them has nothing.
-fn gathered(alloc: Global, ends: Vec<Result<Kept, Halt>>) -> Result<Vec<Kept>, Failure>
-    ensures { (c : Certified) (places : ℕ) → AreEnds c places ends.items
-        → IfOk result (λ kept. AreAllKept c places kept.items) }
+fn gathered(
+    alloc: Global,
+    places: u16,
+    ends: Vec<Result<Kept, Halt>>,
+) -> Result<Vec<Kept>, Failure>
+    ensures kept { (c : Certified) (count : ℕ) → AreAllEnds c count ends.items
+        → IfOk result (λ kept. AreAllKept c count kept.items) }
+    ensures failure { (c : Certified) (count : ℕ) → AreAllEnds c count ends.items
+        → IfErr result (IsFailureOf c count) }
 {
-    if let Some(failure) = first_failure(&ends) {
+    if let Some(failure) = first_failure(places, &ends) {
         return Err(failure);
     }
     let mut all = Vec::with_capacity(alloc, ends.len())?;
@@ -102,7 +113,8 @@ fn trails_from<'a>(
     all: Vec<Kept>,
 ) -> Result<Vec<Trail<'a>>, Failure>
     requires { AreAllKept verified.now places all.items }
-    ensures { IfOk result (λ trails. AreTrailsOf verified.now places trails.items) }
+    ensures trails { IfOk result (λ trails. AreTrailsOf verified.now places trails.items) }
+    ensures failure { IfErr result (IsFailureOf verified.now places) }
 {
     let mut trails = Vec::with_capacity(alloc, all.len())?;
     for kept in all {
@@ -113,13 +125,24 @@ fn trails_from<'a>(
     Ok(trails)
 }
 
-/// The report of a run that has ended, if its log is found in the trails of its places.
-fn finished(alloc: Global, trails: &[Trail], log: Repeats<Turn>) -> Result<RunReport, WorkFault>
+/// The report of a run that has ended, if its log has at most `turns` turns and is found in the trails of its places.
+fn finished(
+    alloc: Global,
+    trails: &[Trail],
+    log: Repeats<Turn>,
+    turns: u64,
+) -> Result<RunReport, WorkFault>
     ensures ok { (c : Certified) → AreTrails c trails.now
         → IfOk result (λ r. IsPlayed c (length trails.now) r.log.items (lines_in r.outputs.items)) }
+    ensures within { IfOk result (λ r. AreWithin (length trails.now) r.log.items) }
+    ensures few { IfOk result (λ r. length r.log.items ≤ turns) }
     ensures places { IsErrOf result fault.Places → ⊥ }
-    ensures told { (places turns : ℕ) → IfErr result (IsTold places turns) }
+    ensures told { (places most : ℕ) → IfErr result (IsTold places most) }
+    ensures caused { (c : Certified) (places : ℕ) → IfErr result (IsCausedAt c places) }
 {
+    if log.len() as u64 > turns {
+        return Err(WorkFault::Differs(turns as usize));
+    }
     match weave(alloc, &log, trails) {
         Ok(outputs) => Ok(RunReport { outputs, log }),
         Err(AuditFault::Differs(turn)) => Err(WorkFault::Differs(turn)),
@@ -139,7 +162,8 @@ fn all_trails<'a, R: Threads + Wait + Sync, G: Gate + Sync>(
 ) -> Result<Vec<Trail<'a>>, Failure>
     requires enough { verified.now.program.least_places ≤ places }
     requires few { places ≤ 64 }
-    ensures { IfOk result (λ trails. AreTrailsOf verified.now places trails.items) }
+    ensures trails { IfOk result (λ trails. AreTrailsOf verified.now places trails.items) }
+    ensures failure { IfErr result (IsFailureOf verified.now places) }
 {
     let workers = Workers {
         rt,
@@ -150,7 +174,7 @@ fn all_trails<'a, R: Threads + Wait + Sync, G: Gate + Sync>(
         gate,
     };
     let ends = make_all(rt, alloc, places, &workers)?;
-    let all = gathered(alloc, ends)?;
+    let all = gathered(alloc, places, ends)?;
     trails_from(alloc, verified, places, all)
 }
 
@@ -164,6 +188,9 @@ fn fault_of(
 ) -> WorkFault
     ensures places { result ≢ fault.Places }
     ensures told { IsTold places turns result }
+    ensures tells { TellsFailure failure result }
+    ensures caused { (c : Certified) → IsFailureOf c places failure
+        → IsCausedAt c places result }
 {
     let Failure::Worker(place, halt) = failure else {
         return match failure {
@@ -187,7 +214,7 @@ fn fault_of(
 /// Runs a module at `places` places, each in a thread of its own, until no activity is left, or `turns` turns were posted.
 /// Places hand each other nothing but frames. What a place did in a turn is posted to one log, and kept by its worker. Where
 /// the run has ended, the log is compared with what the workers kept: so an Ok carries a log that is a run of the machine, with
-/// its outputs. The gate is notified of each turn. May wait: nothing is promised about when, or whether, it returns.
+/// its outputs. It has at most `turns` turns, each as short as `x10_log` reads it. The gate is notified of each turn. May wait: nothing is promised about when, or whether, it returns.
 pub fn run_threads<R: Threads + Wait + Sync, G: Gate + Sync>(
     rt: &R,
     alloc: Global,
@@ -198,8 +225,11 @@ pub fn run_threads<R: Threads + Wait + Sync, G: Gate + Sync>(
 ) -> Result<RunReport, WorkFault>
     ensures ok { IfOk result (λ r. IsPlayed verified.now places r.log.items
         (lines_in r.outputs.items)) }
+    ensures within { IfOk result (λ r. AreWithin places r.log.items) }
+    ensures few { IfOk result (λ r. length r.log.items ≤ turns) }
     ensures places { IsErrOf result fault.Places ↔ IsForbidden verified.now places }
     ensures told { IfErr result (IsTold places turns) }
+    ensures caused { IfErr result (IsCausedAt verified.now places) }
 {
     verified.certificate();
     if places < verified.image().least() || places > MOST_PLACES {
@@ -209,7 +239,7 @@ pub fn run_threads<R: Threads + Wait + Sync, G: Gate + Sync>(
     let trails = all_trails(rt, alloc, verified, places, &mail, gate);
     let log = mail.into_hall().into_log();
     match trails {
-        Ok(trails) => finished(alloc, &trails, log),
+        Ok(trails) => finished(alloc, &trails, log, turns),
         Err(failure) => Err(fault_of(alloc, places, turns, failure, log)),
     }
 }

@@ -8,7 +8,7 @@ ghost use Rattle.x10_workers.specs.Plays.{IsPlayed};
 ghost use Rattle.x10_workers.specs.Trails.{IsTrail};
 ghost use Rattle.x10_workers.specs.Workings.{AreTrails};
 ghost use Rattle.x10_workers.specs.declared.trail.Trail as trail;
-ghost use Rattle.x10_workers.specs.Weaves.{Woven, IsTurnOf, TakesOff, TakesOffEach, IsNextTurn, Weaves, WeavesAll, AreAllWoven, IsWovenWhole, IsNotWoven, ExplainsWeave, all_flying, nothing_woven};
+ghost use Rattle.x10_workers.specs.Weaves.{Woven, IsTurnOf, TakesOff, TakesOffEach, IsNextTurn, Weaves, WeavesAll, AreAllWoven, AreWithin, IsWovenWhole, IsNotWoven, ExplainsWeave, all_flying, nothing_woven};
 ghost use Rattle.x10_workers.specs.Looms.{woven};
 ghost use Rattle.x10_workers.specs.declared.trail.OwnTurn as turn;
 
@@ -264,6 +264,7 @@ pub fn weave(
         → IfOk result (λ outputs. IsPlayed c (length trails.now) log.now.items
         (lines_in outputs.items)) }
     ensures whole { IfOk result (λ _. IsWovenWhole trails.now log.now.items) }
+    ensures within { IfOk result (λ _. AreWithin (length trails.now) log.now.items) }
     ensures lines { IfOk result (λ outputs. lines_in outputs.items
         ≡ map (λ t. map line_as t.lines) trails.now) }
     ensures err { IfErr result (ExplainsWeave trails.now log.now.items) }

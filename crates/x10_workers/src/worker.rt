@@ -1,6 +1,8 @@
 //! A worker: one place, and the turns that it makes.
-ghost use Rattle.std.specs.Prelude.{◌≡◌, ◌≢◌, ◌+◌, ◌<◌, ◌^◌, ◌++◌, ◌∷◌, [], true, false, IsTrue, IfOk, length, map};
+ghost use Rattle.std.specs.Prelude.{◌≡◌, ◌≢◌, ◌+◌, ◌<◌, ◌≤◌, ◌^◌, ◌++◌, ◌∷◌, [], true, false, IsTrue, IfOk, IfErr, length, map};
 ghost use Rattle.x10_hall.specs.Halls.{frame_of, told};
+ghost use Rattle.x10_hall.specs.declared.limits.TheConstants.{MOST_TAKEN, MOST_STEPS};
+ghost use Rattle.x10_workers.specs.Causes.{Halts};
 ghost use Rattle.x10_workers.specs.Trails.{TakesFrame, TakesEach, StepsEach};
 ghost use Rattle.x10_workers.specs.Workings.{AddsSteps, WorksOn, KeepsTurn, IsKeptWhole};
 
@@ -11,17 +13,12 @@ use crate::lines::push_copies;
 use crate::step_order::StepOrder;
 use crate::trail::{Kept, OwnTurn};
 use std::alloc::{AllocError, Global};
+use x10_hall::limits::{MOST_STEPS, MOST_TAKEN};
 use x10_hall::{End, Keys, Port, Posted, Repeats, Stint, Take, Taken};
 use x10_place::{Place, Stepped, Sweep};
 use x10_world::copied_lines;
 
 mod keeping;
-
-/// The most frames that a turn takes.
-const MOST_FRAMES: u8 = 16;
-
-/// The most steps that a turn makes.
-const MOST_STEPS: usize = 64;
 
 /// The most turns that are posted at once. Posting takes a lock that all workers share, which costs as much as a turn's steps.
 const MOST_UNPOSTED: usize = 16;
@@ -99,8 +96,9 @@ impl<'a> Worker<'a> {
     /// One turn: takes frames, makes steps, and keeps what it did, if it did something.
     pub fn turn(&mut self, port: &impl Port, gate: &impl Gate) -> Result<Went, Halt>
         requires { self.old.place.stopped ≢ true }
-        ensures { IfOk result (λ _. WorksOn self.old.place self.old.kept.items self.new.place
+        ensures works { IfOk result (λ _. WorksOn self.old.place self.old.kept.items self.new.place
             self.new.kept.items) }
+        ensures halts { IfErr result (Halts self.old.place) }
     {
         let printed = self.place.output().len();
         let taken = self.take_frames(port)?;
@@ -135,6 +133,7 @@ impl<'a> Worker<'a> {
     pub fn end(&mut self, port: &impl Port) -> Result<(), Halt>
         ensures place { self.new.place ≡ self.old.place }
         ensures kept { self.new.kept ≡ self.old.kept }
+        ensures halts { IfErr result (Halts self.old.place) }
     {
         if self.has_ended || !self.place.is_empty() || !self.place.closed() {
             return Ok(());
@@ -167,6 +166,8 @@ impl<'a> Worker<'a> {
         ensures takes { IfOk result (λ taken. TakesEach self.old.place
             (map told taken.items) self.new.place) }
         ensures goes { IfOk result (λ _. self.new.place.stopped ≢ true) }
+        ensures few { IfOk result (λ taken. length taken.items ≤ MOST_TAKEN) }
+        ensures halts { IfErr result (Halts self.old.place) }
         ensures kept { self.new.kept ≡ self.old.kept }
     {
         let mut taken = Vec::new(self.alloc);
@@ -176,7 +177,7 @@ impl<'a> Worker<'a> {
             }
             return Ok(taken);
         }
-        for _ in 0..MOST_FRAMES {
+        for _ in 0..MOST_TAKEN {
             match port.take(self.id) {
                 Take::Frame(frame) => self.accept(frame, &mut taken)?,
                 Take::Nothing => return Ok(taken),
@@ -192,6 +193,7 @@ impl<'a> Worker<'a> {
         ensures takes { IfOk result (λ _. TakesFrame self.old.place
             (told frame).bytes self.new.place) }
         ensures taken { IfOk result (λ _. taken.new.items ≡ taken.old.items ++ frame ∷ []) }
+        ensures halts { IfErr result (Halts self.old.place) }
         ensures kept { self.new.kept ≡ self.old.kept }
     {
         taken.reserve(1)?;
@@ -208,6 +210,8 @@ impl<'a> Worker<'a> {
         ensures steps { IfOk result (λ steps. StepsEach self.old.place steps.keys
             (map frame_of steps.frames.items) self.new.place) }
         ensures goes { IfOk result (λ _. self.new.place.stopped ≢ true) }
+        ensures few { IfOk result (λ steps. length steps.keys ≤ MOST_STEPS) }
+        ensures halts { IfErr result (Halts self.old.place) }
         ensures still { IfOk result (λ steps. steps.moved ≡ false
             → self.new.place ≡ self.old.place) }
         ensures kept { self.new.kept ≡ self.old.kept }
@@ -219,7 +223,7 @@ impl<'a> Worker<'a> {
             went: Went::On,
         };
         for _ in 0..MOST_STEPS {
-            if steps.keys.len() >= MOST_STEPS {
+            if steps.keys.len() >= usize::from(MOST_STEPS) {
                 return Ok(steps);
             }
             let Some(key) = self.order.next_key(&self.place)? else {
@@ -238,6 +242,7 @@ impl<'a> Worker<'a> {
         requires few { length steps.old.keys < 64 }
         ensures adds { IfOk result (λ _. AddsSteps self.old.place steps.old self.new.place
             steps.new) }
+        ensures halts { IfErr result (Halts self.old.place) }
         ensures kept { self.new.kept ≡ self.old.kept }
     {
         if self.order.is_single() {
@@ -256,9 +261,10 @@ impl<'a> Worker<'a> {
         requires few { length steps.old.keys < 64 }
         ensures adds { IfOk result (λ _. AddsSteps self.old.place steps.old self.new.place
             steps.new) }
+        ensures halts { IfErr result (Halts self.old.place) }
         ensures kept { self.new.kept ≡ self.old.kept }
     {
-        let most = MOST_STEPS.saturating_sub(steps.keys.len());
+        let most = usize::from(MOST_STEPS).saturating_sub(steps.keys.len());
         self.order.fill_round(key, most, &mut self.round)?;
         let vacant = self.place.vacant_key();
         let Sweep { made, moved, last } = self.place.sweep(&self.round);
@@ -278,9 +284,10 @@ impl<'a> Worker<'a> {
         requires few { length steps.old.keys < 64 }
         ensures adds { IfOk result (λ _. AddsSteps self.old.place steps.old self.new.place
             steps.new) }
+        ensures halts { IfErr result (Halts self.old.place) }
         ensures kept { self.new.kept ≡ self.old.kept }
     {
-        let most = MOST_STEPS.saturating_sub(steps.keys.len());
+        let most = usize::from(MOST_STEPS).saturating_sub(steps.keys.len());
         let vacant = self.place.vacant_key();
         let (made, last) = self.place.run(key, most as u64);
         let sent = last?;
@@ -300,6 +307,7 @@ impl<'a> Worker<'a> {
         requires few { length steps.old.keys < 64 }
         ensures adds { IfOk result (λ _. AddsSteps self.old.place steps.old self.new.place
             steps.new) }
+        ensures halts { IfErr result (Halts self.old.place) }
         ensures kept { self.new.kept ≡ self.old.kept }
     {
         steps.keys.push(self.alloc, key, 1)?;

@@ -1,6 +1,9 @@
 //! The loop of a worker's thread.
-ghost use Rattle.std.specs.Prelude.{◌≢◌, ◌<◌, ◌≤◌, true, IfOk};
-ghost use Rattle.x10_workers.specs.Workings.{WorksOn, IsKeptOf, IsTrailOf};
+ghost use Rattle.std.specs.Prelude.{◌≡◌, ◌≢◌, ◌⊎◌, ◌<◌, ◌≤◌, true, IfErr, IfOk};
+ghost use Rattle.x10_kinds.specs.declared.stop.Stop.TheVariants as stop;
+ghost use Rattle.x10_workers.specs.declared.halt.Halt.TheVariants as halt;
+ghost use Rattle.x10_workers.specs.Causes.{Halts, HaltsFrom, IsEndOf};
+ghost use Rattle.x10_workers.specs.Workings.{WorksOn, IsTrailOf};
 
 use crate::gate::Gate;
 use crate::halt::Halt;
@@ -21,8 +24,9 @@ fn attend(
     gate: &impl Gate,
 ) -> Result<(), Halt>
     requires { worker.old.place.stopped ≢ true }
-    ensures { IfOk result (λ _. WorksOn worker.old.place worker.old.kept.items worker.new.place
-        worker.new.kept.items) }
+    ensures works { IfOk result (λ _. WorksOn worker.old.place worker.old.kept.items
+        worker.new.place worker.new.kept.items) }
+    ensures halts { IfErr result (Halts worker.old.place) }
 {
     for _ in rt.forever() {
         let went = worker.turn(port, gate)?;
@@ -53,7 +57,7 @@ fn attend_all(
     requires within { id < places }
     requires enough { verified.now.program.least_places ≤ places }
     requires few { places ≤ 64 }
-    ensures { IfOk result (IsKeptOf verified.now places id) }
+    ensures { IsEndOf verified.now places id result }
 {
     let place = Place::new(alloc, verified, id, places)?;
     let mut worker = Worker::new(alloc, id, place)?;
@@ -77,7 +81,7 @@ pub(crate) fn kept_of(
     requires within { id < places }
     requires enough { verified.now.program.least_places ≤ places }
     requires few { places ≤ 64 }
-    ensures { IfOk result (IsKeptOf verified.now places id) }
+    ensures { IsEndOf verified.now places id result }
 {
     let kept = attend_all(rt, alloc, verified, id, places, port, gate);
     if kept.is_err() {
@@ -107,7 +111,9 @@ pub fn work<'a>(
     requires within { id < places }
     requires enough { verified.now.program.least_places ≤ places }
     requires few { places ≤ 64 }
-    ensures { IfOk result (IsTrailOf verified.now places id) }
+    ensures trail { IfOk result (IsTrailOf verified.now places id) }
+    ensures halts { IfErr result (λ why. (why ≡ halt.Stop stop.Memory)
+        ⊎ HaltsFrom verified.now places id why) }
 {
     let kept = kept_of(rt, alloc, verified, id, places, port, gate)?;
     Ok(Trail::new(verified, places, kept))

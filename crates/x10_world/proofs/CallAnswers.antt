@@ -13,8 +13,8 @@ use Rattle.x10_place.specs.StandsFor.{PlaceState}
 use Rattle.x10_world.specs.Happenings.{Happened, CanHappen}
 use Rattle.x10_flights.specs.Flights.{FlightsState}
 use Rattle.x10_world.specs.Prompt.{MayEnd, WorksIn}
-use Rattle.x10_world.specs.StandsForWorld.{WorldState, world_of, IsWorld, KeepsSetting, StandsForWorld, MakesEvent, IsIdleNow, BeganLast, SentLast}
-use Rattle.x10_world.specs.Runs.{IsSameWorld, RunsThrough, StopsAt, RepeatsThrough, IsHaltedStretch, Repeats}
+use Rattle.x10_world.specs.StandsForWorld.{WorldState, world_of, IsWorld, KeepsSetting, StandsForWorld, MakesEvent, IsIdleNow, BeganLast}
+use Rattle.x10_world.specs.Runs.{IsSameWorld, RunsThrough, StopsAt, RepeatsThrough, IsHaltedStretch, Repeats, SentLast}
 use Rattle.x10_world.specs.EventAnswers.{Handles, AnswersEvent, Stretches}
 use Rattle.x10_world.proofs.EventRuns.{idle_same, acts_where_it_can, runs_one, repeats_reach, halted_repeats}
 use Rattle.x10_world.proofs.StretchLemmas.{run_waits}
@@ -43,9 +43,9 @@ pub record AnswersRun (z : WorldState) (place key most : ℕ) (result : Result �
   pub ok : IfOk result (λ n. (w : World) → StandsForWorld z w → RepeatsThrough z w n place key y)
   pub some : (w : World) → StandsForWorld z w → (n : ℕ) × (n ≤ most) × Repeats z w n place key y
   pub few : IfOk result (λ n. n ≤ most)
-  pub all : IfOk result (λ n. n < most → IsIdleNow y place key ⊎ (BeganLast z place key n y ⊎ SentLast z y))
+  pub all : IfOk result (λ n. n < most → IsIdleNow y place key ⊎ (BeganLast z place key n y ⊎ SentLast z place key n y))
   pub waits : IfOk result (λ n. n < most → y.flights.flying ≡ [] → (w : World) (number : ℕ) → StandsForWorld y w → WorksIn w place key number
-      → IsFree (stays_of w.net place) key → MayEnd w (finish_at place number) → BeganLast z place key n y ⊎ SentLast z y)
+      → IsFree (stays_of w.net place) key → MayEnd w (finish_at place number) → BeganLast z place key n y ⊎ SentLast z place key n y)
   pub stopped : z.stopped ≡ true → (result ≡ Err stop.Stopped) × (y ≡ z)
   pub goes : IfOk result (λ _. y.stopped ≢ true)
   pub hindered : z.stopped ≢ true → IfErr result (IsHaltedStretch z place key most y)
@@ -143,9 +143,21 @@ module _ (c : Certified) (places : List PlaceState) (flights : FlightsState) (z 
     began n b = subst (λ t. BeganLast t place key n (world_of c new after d)) seen
         (record { old = b.old; new = b.new; old_is = b.old_is; new_is = b.new_is; begins = b.begins })
 
+    sent_last : (n : ℕ) → SentLast (world_of c places flights false) place key n (world_of c new after false)
+        → SentLast z place key n (world_of c new after d)
+    sent_last n s = subst (λ t. SentLast t place key n (world_of c new after d)) seen (record {
+      old = s.old;
+      new = s.new;
+      old_is = s.old_is;
+      new_is = s.new_is;
+      sent = s.sent;
+      sends = s.sends;
+      posted = s.posted;
+    })
+
     -- why no more were made
     abbrev pub Ends : ℕ → Type 0
-    Ends n = BeganLast z place key n (world_of c new after d) ⊎ SentLast z (world_of c new after d)
+    Ends n = BeganLast z place key n (world_of c new after d) ⊎ SentLast z place key n (world_of c new after d)
 
     run_all : (result : Result ℕ Stop) → Stretches c places flights place key most result new after
         → IfOk result (λ n. n < most → IsIdleNow (world_of c new after d) place key ⊎ Ends n)
@@ -154,7 +166,7 @@ module _ (c : Certified) (places : List PlaceState) (flights : FlightsState) (z 
       | inl idle ↦ inl idle
       | inr last ↦ elim last [
         | inl begins ↦ inr (inl (began n begins))
-        | inr sends ↦ inr (inr (subst (λ (t : WorldState). t.flights.posted < after.posted) seen sends))
+        | inr sends ↦ inr (inr (sent_last n sends))
       ]
     ]
 

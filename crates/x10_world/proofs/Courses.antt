@@ -170,6 +170,6 @@ course_on setting bounds x y z u v w (e ∷ es) more (goes a b c u' v' w' e' es'
 pub stop_stands : (x y : WorldState) (event : Event) (why : Stop) (w : World) → StopsAt x event why y → StandsForWorld x w → StandsForWorld y w
 stop_stands x y event why w s stand = moved x y w s.kept (stand_unchanged x.program x.bounds y.places x.flights y.flights w s.flights (elim s.places [
   | inl same ↦ subst (λ ps. AllStandFor x.program x.bounds ps x.flights w) (sym same) stand
-  | inr one ↦ subst (λ ps. AllStandFor x.program x.bounds ps x.flights w) (sym one.3)
-      (stand_stopped x.program x.bounds x.places x.flights one.0 one.1 w one.2 stand)
+  | inr one ↦ subst (λ ps. AllStandFor x.program x.bounds ps x.flights w) (sym one.4)
+      (stand_stopped x.program x.bounds x.places x.flights one.0 one.1 w one.3 stand)
 ]))

@@ -130,7 +130,7 @@ module _ (c : Certified) (places : List PlaceState) (flights : FlightsState) (nu
         for_room = for_room why refused;
         why_is = refl;
       };
-      places = inr (flight.to, p, there, ap (λ r. slice_set places flight.to r) same);
+      places = inr (flight.to, p, (flight, is, refl), there, ap (λ r. slice_set places flight.to r) same);
       flights = unchanged_self flights;
       kept = record { program = refl; bounds = refl; count = length-set places flight.to q };
       stopped = refl;

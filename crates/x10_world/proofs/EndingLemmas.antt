@@ -43,16 +43,16 @@ lines_are y w stand id m there = go (slice_get y.places id) refl
 
 -- ---- whether the run has ended is the same after a Stop
 
-closed_halted : (old new : List PlaceState) → AreHalted old new → IsClosed new ↔ IsClosed old
-closed_halted old new (inl same) = subst (λ ps. IsClosed ps ↔ IsClosed old) (sym same) ((λ h. h), (λ h. h))
-closed_halted old new (inr (id, p, there, is)) = subst (λ ps. IsClosed ps ↔ IsClosed old) (sym is) (
+closed_halted : (x : WorldState) (event : Event) (new : List PlaceState) → AreHalted x event new → IsClosed new ↔ IsClosed x.places
+closed_halted x event new (inl same) = subst (λ ps. IsClosed ps ↔ IsClosed x.places) (sym same) ((λ h. h), (λ h. h))
+closed_halted x event new (inr (id, p, names, there, is)) = subst (λ ps. IsClosed ps ↔ IsClosed x.places) (sym is) (
   (λ h q at. elim (cases_eq 0 id) [
-    | inl here ↦ subst (λ (r : PlaceState). IsDoneHere (store_of r) 0) (same_Some p q (sym there ∙ ap (λ i. slice_get old i) (sym here) ∙ at))
-        (h stopped (ap (λ i. slice_get halted i) here ∙ set_here old id stopped p there))
-    | inr off ↦ h q (set_off old id 0 stopped off ∙ at)
+    | inl here ↦ subst (λ (r : PlaceState). IsDoneHere (store_of r) 0) (same_Some p q (sym there ∙ ap (λ i. slice_get x.places i) (sym here) ∙ at))
+        (h stopped (ap (λ i. slice_get halted i) here ∙ set_here x.places id stopped p there))
+    | inr off ↦ h q (set_off x.places id 0 stopped off ∙ at)
   ]),
-  (λ h q at. elim (set_either old id 0 stopped q p there at) [
-    | inl here ↦ subst (λ (r : PlaceState). IsDoneHere (store_of r) 0) here.1 (h p (ap (λ i. slice_get old i) here.0 ∙ there))
+  (λ h q at. elim (set_either x.places id 0 stopped q p there at) [
+    | inl here ↦ subst (λ (r : PlaceState). IsDoneHere (store_of r) 0) here.1 (h p (ap (λ i. slice_get x.places i) here.0 ∙ there))
     | inr off ↦ h q off.1
   ]),
 )
@@ -61,7 +61,7 @@ closed_halted old new (inr (id, p, there, is)) = subst (λ ps. IsClosed ps ↔ I
     stopped = record p { stopped = true }
 
     halted : List PlaceState
-    halted = slice_set old id stopped
+    halted = slice_set x.places id stopped
 
 -- ---- the ending
 
@@ -70,7 +70,7 @@ record IsLed (c : Certified) (count : ℕ) (events : List Event) (x y : WorldSta
   final : WorldState
   runs : (w : World) → StandsForWorld x w → Runs x w e.done events final
   hindered : IfSome e.stop (IsHinderedNext final events e.done)
-  places : AreHalted final.places y.places
+  closed_is : IsClosed y.places ↔ IsClosed final.places
   flying : y.flights.flying ≡ final.flights.flying
   stands : (w : World) → StandsForWorld final w → StandsForWorld y w
 
@@ -81,7 +81,7 @@ led_by c count events x y e None none runs halted = record {
   final = y;
   runs = runs none;
   hindered = subst (λ o. IfSome o (IsHinderedNext y events e.done)) (sym none) tt;
-  places = inl refl;
+  closed_is = ((λ h. h), (λ h. h));
   flying = refl;
   stands = λ w stand. stand;
 }
@@ -91,7 +91,7 @@ led_by c count events x y e (Some why) some runs halted =
       final = h.state;
       runs = h.runs;
       hindered = subst (λ o. IfSome o (IsHinderedNext h.state events e.done)) (sym some) (h.event, h.is_next, h.stops.hindered);
-      places = h.stops.places;
+      closed_is = closed_halted h.state h.event y.places h.stops.places;
       flying = h.stops.flights.flying;
       stands = λ w stand. stop_stands h.state y h.event why w h.stops stand;
     }
@@ -104,7 +104,6 @@ pub ending_is : (c : Certified) (count : ℕ) (events : List Event) (x y : World
     → IsTrue e.closed ↔ IsClosed y.places → ((w : World) → StandsForWorld y w → IsTrue e.closed → IsOver w)
     → ((w : World) → StandsForWorld y w → IsOver w → y.flights.flying ≡ [] → IsTrue e.closed) → IsEndingOf c count events outputs e
 ending_is c count events x y outputs e opened runs halted all less permitted kept lines closed ended over = record {
-  key = key;
   last = made.last;
   run = run;
   first = x;
@@ -118,7 +117,7 @@ ending_is c count events x y outputs e opened runs halted all less permitted kep
   hindered = led.hindered;
   count_is = ap (λ ls. length ls) lines ∙ map_length (λ q. map line_as q.lines) y.places ∙ kept.count ∙ opened.places.count_is;
   lines = subst (λ ls. AreLinesOf ls made.last) (sym lines) (lines_are y made.last (led.stands made.last made.stands));
-  closed = let same = closed_halted led.final.places y.places led.places in ((λ t. same.0 (closed.0 t)), (λ h. closed.1 (same.1 h)));
+  closed = ((λ t. led.closed_is.0 (closed.0 t)), (λ h. closed.1 (led.closed_is.1 h)));
   ended = ended made.last (led.stands made.last made.stands);
   over = λ is_over still. over made.last (led.stands made.last made.stands) is_over (led.flying ∙ still);
 }
@@ -126,24 +125,21 @@ ending_is c count events x y outputs e opened runs halted all less permitted kep
     led : IsLed c count events x y e
     led = led_by c count events x y e e.stop refl runs halted
 
-    key : ℕ
-    key = opened.stands.0
-
-    made : Runs x (opening (setting_of_world x) key) e.done events led.final
-    made = led.runs (opening (setting_of_world x) key) opened.stands.1
+    made : Runs x (opening (setting_of_world x) 0) e.done events led.final
+    made = led.runs (opening (setting_of_world x) 0) opened.stands
 
     setting : setting_of_world x ≡ record { program = c.program; places = count }
     setting = ap (λ m. record { program = m; places = length x.places }) opened.program
         ∙ ap (λ n. record { program = c.program; places = n }) opened.places.count_is
 
     run : Run Ideal (record { program = c.program; places = count }) (WithinBounds c.bounds)
-        (opening (record { program = c.program; places = count }) key) (take e.done events) made.last
-    run = subst (λ s. Run Ideal s (WithinBounds c.bounds) (opening s key) (take e.done events) made.last) setting
-        (subst (λ bs. Run Ideal (setting_of_world x) (WithinBounds bs) (opening (setting_of_world x) key) (take e.done events) made.last)
+        (opening (record { program = c.program; places = count }) 0) (take e.done events) made.last
+    run = subst (λ s. Run Ideal s (WithinBounds c.bounds) (opening s 0) (take e.done events) made.last) setting
+        (subst (λ bs. Run Ideal (setting_of_world x) (WithinBounds bs) (opening (setting_of_world x) 0) (take e.done events) made.last)
         opened.bounds made.run)
 
-    course : Course (record { program = c.program; places = count }) c.bounds x (opening (record { program = c.program; places = count }) key)
+    course : Course (record { program = c.program; places = count }) c.bounds x (opening (record { program = c.program; places = count }) 0)
         (take e.done events) led.final made.last
-    course = subst (λ s. Course s c.bounds x (opening s key) (take e.done events) led.final made.last) setting
-        (subst (λ bs. Course (setting_of_world x) bs x (opening (setting_of_world x) key) (take e.done events) led.final made.last) opened.bounds
+    course = subst (λ s. Course s c.bounds x (opening s 0) (take e.done events) led.final made.last) setting
+        (subst (λ bs. Course (setting_of_world x) bs x (opening (setting_of_world x) 0) (take e.done events) led.final made.last) opened.bounds
         made.course)

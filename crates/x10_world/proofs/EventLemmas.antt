@@ -22,7 +22,7 @@ use Rattle.x10_place.specs.StandsFor.{PlaceState, Far, StandsFor, Keeps, Answers
 use Rattle.x10_world.specs.Happenings.{AreUnchanged, Happened}
 use Rattle.x10_flights.specs.Flights.{FlightsState, with_room}
 use Rattle.x10_world.specs.Prompt.{MayEnd, IsPrompt}
-use Rattle.x10_world.specs.StandsForWorld.{BelongTo, IsWorld, setting_in, far_in, AllStandFor, with_posted, with_sent, after_step, GoesBelow, IsMadeStep, IsStepped, StepsOne, IsRoomless}
+use Rattle.x10_world.specs.StandsForWorld.{world_of, BelongTo, IsWorld, setting_in, far_in, AllStandFor, with_posted, with_sent, after_step, GoesBelow, IsMadeStep, IsStepped, StepsOne, IsRoomless}
 use Rattle.x10_world.specs.Runs.{AreHalted}
 use Rattle.x10_world.specs.EventAnswers.{Handles}
 use Rattle.x10_place.proofs.KnownExports.{put_within}
@@ -329,9 +329,9 @@ module _ (c : Certified) (places new : List PlaceState) (flights : FlightsState)
       at_place None none = absurd (err_is why (one.gone none).0)
       at_place (Some p) there = (p, there, (one.there p there).2.hindered (world.none_stopped on id p there))
 
-      halted : (o : Option PlaceState) → slice_get places id ≡ o → AreHalted places new
+      halted : (o : Option PlaceState) → slice_get places id ≡ o → AreHalted (world_of c places flights false) (Step id key) new
       halted None none = absurd (err_is why (one.gone none).0)
-      halted (Some p) there = let t = one.there p there in inr (id, p, there, t.1 ∙ ap (λ r. slice_set places id r) t.2.stop)
+      halted (Some p) there = let t = one.there p there in inr (id, p, refl, there, t.1 ∙ ap (λ r. slice_set places id r) t.2.stop)
 
   -- what a step puts out goes to places that there are
   pub sent_below : (out : Sent) → StepsOne places new id key (Ok (stepped.Moved out)) → GoesBelow flights.places out

@@ -1,14 +1,14 @@
 -- The world at the beginning stands for the machine's opening.
 use Rattle.std.proofs.Common.{◌≡◌, ◌≢◌, ℕ, ◌+◌, ◌<◌, ◌≤◌, ◌==◌, ◌&&◌, Bool, true, false, List, [], ◌∷◌, ◌++◌, length, Option, Some, None, Ok, refl, sym, ap, subst, ◌∙◌, inl, inr, arith, length-append}
 use Rattle.std.specs.Prelude.{slice_get, nat_lt, if◌then◌else◌}
-use Rattle.std.proofs.lemmas.Bool.{eqb-true, eqb-false, ne_eqb, lt-ltb, ltb-true}
-use Rattle.std.proofs.lemmas.Option.{same_Some, slice_get_within}
+use Rattle.std.proofs.lemmas.Bool.{ne_eqb, lt-ltb, ltb-true}
+use Rattle.std.proofs.lemmas.Option.{slice_get_within}
 use Rattle.x10_model.specs.Structure.{bounds_of}
 use Rattle.x10_model.specs.Places as machine
 use Rattle.x10_model.specs.declared.finish.Finish.{Finish}
 use Rattle.x10_model.specs.Places.{Setting, Message, root}
 use Rattle.x10_model.specs.Totals.{nothing, zeros, first_totals}
-use Rattle.x10_model.specs.Worlds.{Unused, Flying, same_finish, first_place, empty_place, opening}
+use Rattle.x10_model.specs.Worlds.{Unused, Flying, same_finish, opening}
 use Rattle.x10_model.proofs.Lists.{none_some, below_some, last_or_before}
 use Rattle.x10_finish.specs.Watching.{AreFirst}
 use Rattle.x10_finish.proofs.WorldLemmas.{opening_is_watched}
@@ -22,7 +22,6 @@ use Rattle.x10_world.specs.StandsForWorld.{WorldState, world_of, IsWorld, settin
 use Rattle.x10_world.proofs.LinkDeliveries.{answered_at_opening}
 use Rattle.x10_world.specs.Opening.{IsOpenedPlace, AreOpened}
 use Rattle.x10_world.proofs.BudgetRuns.{budget_at_opening}
-use Rattle.x10_world.proofs.Lists.{at_first}
 
 -- ---- counts
 
@@ -53,80 +52,52 @@ counts_first verified places some opened = record {
 
 -- ---- the opening
 
--- the place of the opening with a number, main's key being that of the first place
-chosen : (setting : Setting) (key other id : ℕ) → id ≢ 0 → opening_place setting other id ≡ opening_place setting key id
-chosen setting key other id ne = ap (λ b. if b then first_place setting other else empty_place 0) (ne_eqb id 0 ne)
-    ∙ ap (λ b. if b then first_place setting key else empty_place 0) (sym (ne_eqb id 0 ne))
-
 pub opening_stands : (c : Certified) (count : ℕ) (x : WorldState) → IsCertified c → 0 < count → x.program ≡ c.program → x.bounds ≡ c.bounds
-    → AreOpened c count x.places → x.flights.flying ≡ [] → (key : ℕ) × StandsForWorld x (opening (setting_of_world x) key)
-opening_stands c count x certified some program bounds opened quiet = (
-  key,
-  record {
-    some = each;
-    none = none;
-    told = λ f number. None;
-    watched = opening_is_watched (setting_of_world x) key (counts_in x.places (λ f number. None))
-        (omega (arith, some, opened.count_is)) watched_first;
-    answered = answered_at_opening (setting_of_world x) key;
-    budget = budget;
-    flies = record {
-      rising = subst (λ fs. RisingBy (λ (f : Flight). f.number) 0 fs x.flights.posted) (sym quiet) tt;
-      each = λ number flight is. absurd (none_some (flight_of x.flights number) flight (ap (λ fs. flight_among fs number) quiet) is);
-      none = λ number e. ((λ message. unused_not message), (λ f. refl));
-      unused = λ number le. refl;
-    };
-  },
-)
+    → AreOpened c count x.places → x.flights.flying ≡ [] → StandsForWorld x (opening (setting_of_world x) 0)
+opening_stands c count x certified some program bounds opened quiet = record {
+  some = each;
+  none = none;
+  told = λ f number. None;
+  watched = opening_is_watched (setting_of_world x) 0 (counts_in x.places (λ f number. None))
+      (omega (arith, some, opened.count_is)) watched_first;
+  answered = answered_at_opening (setting_of_world x) 0;
+  budget = budget;
+  flies = record {
+    rising = subst (λ fs. RisingBy (λ (f : Flight). f.number) 0 fs x.flights.posted) (sym quiet) tt;
+    each = λ number flight is. absurd (none_some (flight_of x.flights number) flight (ap (λ fs. flight_among fs number) quiet) is);
+    none = λ number e. ((λ message. unused_not message), (λ f. refl));
+    unused = λ number le. refl;
+  };
+}
   where
-    first : (p : PlaceState) × (slice_get x.places 0 ≡ Some p)
-    first = at_first x.places (omega (arith, opened.count_is))
-
     unused_not : (message : Message) → Unused ≡ Flying message → ⊥
     unused_not message e = cc
 
-    key : ℕ
-    key = (opened.each 0 first.0 first.1).stands.0
-
     -- what places export at the beginning
     no_exports : Far
-    no_exports = far_in (opening (setting_of_world x) key)
+    no_exports = far_in (opening (setting_of_world x) 0)
 
     same_setting : (id : ℕ) (p : PlaceState) → IsOpenedPlace c count id p → place.setting_of p ≡ setting_of_world x
     same_setting id p o = ap (λ m. record { program = m; places = p.places }) (o.is_new.program ∙ sym program)
         ∙ ap (λ n. record { program = x.program; places = n }) (o.is_new.store.places_is ∙ sym opened.count_is)
 
-    stands : (id : ℕ) (p : PlaceState) → slice_get x.places id ≡ Some p → StandsFor no_exports p (opening_place (setting_of_world x) key id)
+    stands : (id : ℕ) (p : PlaceState) → slice_get x.places id ≡ Some p → StandsFor no_exports p (opening_place (setting_of_world x) 0 id)
     stands id p is =
         let o = opened.each id p is in
-        subst (λ s. StandsFor no_exports p (opening_place s key id)) (same_setting id p o) (at_key (id == 0) refl)
-      where
-        at_key : (b : Bool) → (id == 0) ≡ b → StandsFor no_exports p (opening_place (place.setting_of p) key id)
-        at_key true e =
-            let zero_is = eqb-true id 0 e in
-            let same = same_Some first.0 p (sym first.1 ∙ ap (λ i. slice_get x.places i) (sym zero_is) ∙ is) in
-            let zero = opened.each 0 first.0 first.1 in
-            let there = subst (λ i. StandsFor no_exports first.0 (opening_place (place.setting_of first.0) key i)) zero.is_new.store.here
-            (zero.stands.1 no_exports) in
-            subst (λ i. StandsFor no_exports p (opening_place (place.setting_of p) key i)) (sym zero_is)
-            (subst (λ q. StandsFor no_exports q (opening_place (place.setting_of q) key 0)) same there)
-        at_key false e =
-            let o = opened.each id p is in
-            let there = subst (λ i. StandsFor no_exports p (opening_place (place.setting_of p) o.stands.0 i)) o.is_new.store.here
-            (o.stands.1 no_exports) in
-            subst (λ m. StandsFor no_exports p m) (chosen (place.setting_of p) key o.stands.0 id (eqb-false id 0 e)) there
+        subst (λ s. StandsFor no_exports p (opening_place s 0 id)) (same_setting id p o)
+        (subst (λ i. StandsFor no_exports p (opening_place (place.setting_of p) 0 i)) o.is_new.store.here (o.stands no_exports))
 
     each : (id : ℕ) (p : PlaceState) → slice_get x.places id ≡ Some p
-        → (m : machine.Place) × ((opening (setting_of_world x) key).net.places id ≡ Some m) × StandsFor no_exports p m
+        → (m : machine.Place) × ((opening (setting_of_world x) 0).net.places id ≡ Some m) × StandsFor no_exports p m
     each id p is = (
-      opening_place (setting_of_world x) key id,
-      ap (λ b. if b then Some (opening_place (setting_of_world x) key id) else None)
+      opening_place (setting_of_world x) 0 id,
+      ap (λ b. if b then Some (opening_place (setting_of_world x) 0 id) else None)
           (lt-ltb id (length x.places) (slice_get_within x.places id p is)),
       stands id p is,
     )
 
-    none : (id : ℕ) → slice_get x.places id ≡ None → (opening (setting_of_world x) key).net.places id ≡ None
-    none id is = ap (λ b. if b then Some (opening_place (setting_of_world x) key id) else None) (not_below (nat_lt id (length x.places)) refl)
+    none : (id : ℕ) → slice_get x.places id ≡ None → (opening (setting_of_world x) 0).net.places id ≡ None
+    none id is = ap (λ b. if b then Some (opening_place (setting_of_world x) 0 id) else None) (not_below (nat_lt id (length x.places)) refl)
       where
         not_below : (b : Bool) → nat_lt id (length x.places) ≡ b → nat_lt id (length x.places) ≡ false
         not_below false e = e
@@ -135,8 +106,8 @@ opening_stands c count x certified some program bounds opened quiet = (
     watched_first : AreFirst (counts_in x.places (λ f number. None))
     watched_first = counts_first c x.places (omega (arith, some, opened.count_is)) (subst (λ n. AreOpened c n x.places) (sym opened.count_is) opened)
 
-    budget : IsWithinBudget x.program x.bounds (opening (setting_of_world x) key)
-    budget = budget_at_opening (setting_of_world x) key x.bounds
+    budget : IsWithinBudget x.program x.bounds (opening (setting_of_world x) 0)
+    budget = budget_at_opening (setting_of_world x) 0 x.bounds
         (subst (λ m. bounds_of m ≡ Ok x.bounds) (sym program) (certified.verified.bounds_are ∙ ap Ok (sym bounds)))
 
 -- ---- one place more
@@ -170,9 +141,6 @@ opened_world c count places flights certified some few opened there quiet = reco
   places_are = there ∙ sym opened.count_is;
   none_stopped = λ on id p is. stopped_not p.stopped (opened.each id p is).is_new.stopped;
   few = (let long = opened.count_is in omega (arith, long, few));
-  world = opening (setting_of_world (world_of c places flights false)) first.0;
-  stands = first.1;
+  world = opening (setting_of_world (world_of c places flights false)) 0;
+  stands = opening_stands c count (world_of c places flights false) certified some refl refl opened quiet;
 }
-  where
-    first : (key : ℕ) × StandsForWorld (world_of c places flights false) (opening (setting_of_world (world_of c places flights false)) key)
-    first = opening_stands c count (world_of c places flights false) certified some refl refl opened quiet

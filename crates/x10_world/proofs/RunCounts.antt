@@ -1,6 +1,6 @@
 -- Runs one after another.
 use Rattle.std.proofs.Common.{◌≡◌, ◌≢◌, ◌⊎◌, ℕ, ◌+◌, ◌-◌, ◌*◌, ◌/◌, ◌%◌, ◌<◌, ◌≤◌, add-mul, min, inl, inr, zero, suc, [], ◌∷◌, ◌++◌, refl, sym, ap, subst, ◌∙◌, arith, length, replicate, List}
-use Rattle.std.specs.Prelude.{Result, Ok, Err, IfErr, MatchResult, true, take}
+use Rattle.std.specs.Prelude.{Result, Ok, Err, IfOk, IfErr, MatchResult, true, take}
 use Rattle.std.specs.Result.{IsErrAnd}
 use Rattle.std.proofs.lemmas.Grind.{div_ceil_times}
 use Rattle.std.proofs.lemmas.List.{length-append, length-map, length-replicate, length-take-le}
@@ -14,7 +14,7 @@ use Rattle.x10_world.specs.declared.rounds.Unfinished.{Unfinished}
 use Rattle.x10_world.specs.declared.rounds.Unfinished.TheVariants as halt
 use Rattle.x10_world.specs.StandsForWorld.{WorldState, KeepsSetting, setting_of_world, StandsForWorld, MakesEvent}
 use Rattle.x10_world.specs.Runs.{IsSameWorld, StopsAt, Runs, RunsThrough, IsHaltedRun, IsHaltedStretch, RepeatsThrough, steps_at}
-use Rattle.x10_world.specs.Rounds.{RunsTo, RunsIn, HasMade, IsHaltedIn, IsCut, IsHalted, Advances, AdvancesOrEnds}
+use Rattle.x10_world.specs.Rounds.{RunsTo, RunsIn, HasMade, IsHaltedIn, IsCut, IsOpenAt, IsHalted, Advances, AdvancesOrEnds}
 use Rattle.x10_world.proofs.RunLemmas.{within, keeps_more, keeps_self, setting_kept, run_more, run_on}
 use Rattle.x10_world.proofs.Courses.{stop_stands}
 use Rattle.x10_world.proofs.EventRuns.{through_none, through_on, through_same}
@@ -162,6 +162,17 @@ cut_on x y z m some limit halt.Memory first h less = (m + h.0, (let few = h.1 in
 -- none before it
 pub cut_after : (x y z : WorldState) (limit : ℕ) (why : Unfinished) → RunsIn x 0 y → IsCut y limit z why → IsCut x limit z why
 cut_after x y z limit why first h = cut_on x y z 0 limit limit why first h (omega arith)
+
+-- as many events were made as were allowed
+pub limit_halted : {T : Type 0} (r : Result T Unfinished) (x y : WorldState) (limit : ℕ) → RunsIn x limit y → y.stopped ≢ true
+    → IfErr r (λ why. (why ≡ halt.Limit) × IsOpenAt limit y) → IfErr r (IsHalted x limit y)
+limit_halted (Ok t) x y limit runs goes h = tt
+limit_halted (Err why) x y limit runs goes h = subst (λ w. IsHalted x limit y w) (sym h.0) (runs, (goes, h.1))
+
+pub limit_made : {T : Type 0} (r : Result T Unfinished) (x y : WorldState) (limit : ℕ) → RunsIn x limit y → y.stopped ≢ true
+    → IfOk r (λ _. (n : ℕ) × HasMade x limit n y)
+limit_made (Ok t) x y limit runs goes = (limit, record { few = omega arith; runs = runs; goes = goes })
+limit_made (Err why) x y limit runs goes = tt
 
 pub cut_is_halt : (x y : WorldState) (limit : ℕ) (why : Unfinished) → IsCut x limit y why → IsHalted x limit y why
 cut_is_halt x y limit (halt.Stop why) h = h

@@ -16,11 +16,12 @@ use Rattle.x10_verify.specs.Certified.{Certified}
 use Rattle.x10_place.specs.Messages.{no_sent}
 use Rattle.x10_place.specs.Stays.{finish_at}
 use Rattle.x10_place.specs.StandsFor.{PlaceState, Keeps, IsIdleAt}
+use Rattle.x10_place.specs.Stretches.{StridesTo, nowhere, finally, SendsLast}
 use Rattle.x10_flights.specs.Flights.{FlightsState, with_room}
 use Rattle.x10_world.specs.Prompt.{MayEnd, WorksIn}
 use Rattle.x10_world.specs.StandsForWorld.{WorldState, world_of, BelongTo, IsWorld, AllStandFor, StandsForWorld, with_posted, with_sent, GoesBelow, IsRunOn, RunsOne, IsIdleNow, BeganLast, IsRoomless}
-use Rattle.x10_world.specs.Happenings.{AreUnchanged}
-use Rattle.x10_world.specs.Runs.{IsSameWorld, at_rest, Repeats, RepeatsThrough, IsHaltedStretch}
+use Rattle.x10_world.specs.Happenings.{AreUnchanged, one_if, frame_count}
+use Rattle.x10_world.specs.Runs.{IsSameWorld, at_rest, Repeats, RepeatsThrough, SentLast, IsHaltedStretch}
 use Rattle.x10_world.specs.EventAnswers.{Stretches}
 use Rattle.x10_world.proofs.Lists.{set_here}
 use Rattle.x10_world.proofs.WaitLemmas.{idle_works}
@@ -50,16 +51,28 @@ err_is why e = cc
 run_goes : (p q : PlaceState) (key most n : ℕ) (out : Sent) → IsRunOn p q key most n (Ok out) → q.stopped ≢ true
 run_goes p q key most n out r = r.goes
 
--- a frame more was put out
-posted_with : (s : FlightsState) (m r : Option Outgoing) → (record { message = m; report = r } ≡ no_sent → ⊥)
-    → s.posted < (with_posted (with_posted s m) r).posted
-posted_with s None None some = absurd (some refl)
-posted_with s (Some m) None some = omega arith
-posted_with s None (Some r) some = omega arith
-posted_with s (Some m) (Some r) some = omega arith
+-- so many frames more were put out
+posted_with : (s : FlightsState) (m r : Option Outgoing) → (with_posted (with_posted s m) r).posted ≡ s.posted + (one_if m + one_if r)
+posted_with s None None = omega arith
+posted_with s (Some m) None = omega arith
+posted_with s None (Some r) = omega arith
+posted_with s (Some m) (Some r) = omega arith
 
-posted_more : (s : FlightsState) (out : Sent) → (out ≡ no_sent → ⊥) → s.posted < (with_sent s out).posted
-posted_more s out some = posted_with s out.message out.report some
+posted_more : (s : FlightsState) (out : Sent) → (with_sent s out).posted ≡ s.posted + frame_count out
+posted_more s out = posted_with s out.message out.report
+
+-- where something was put out, the last step did
+sends_last : (key : ℕ) (p : PlaceState) (n : ℕ) (out : Sent) (q : PlaceState) → StridesTo key p n out q → (out ≡ no_sent → ⊥)
+    → SendsLast key p n out q
+sends_last key p n out q (nowhere) some = absurd (some refl)
+sends_last key p n out q (finally before last sent r far stride) some = record {
+  before = before;
+  count = refl;
+  last = last;
+  strides = far;
+  stride = stride;
+  some = some;
+}
 
 module _ (c : Certified) (places new : List PlaceState) (flights : FlightsState) (id key most n : ℕ) (bounds-are : bounds_of c.program ≡ Ok c.bounds)
     (world : IsWorld c.program c.bounds places flights false) where
@@ -178,7 +191,7 @@ module _ (c : Certified) (places new : List PlaceState) (flights : FlightsState)
 
       all_at : (o : Option PlaceState) → slice_get places id ≡ o → n < most
           → IsIdleNow (world_of c new after false) id key ⊎ (BeganLast (world_of c places flights false) id key n (world_of c new after false)
-          ⊎ flights.posted < after.posted)
+          ⊎ SentLast (world_of c places flights false) id key n (world_of c new after false))
       all_at None none less = inl (λ q e. absurd (let f = ap (λ ps. slice_get ps id) (one.gone none).2 in
           none_some (slice_get new id) q (f ∙ none) e))
       all_at (Some p) there less =
@@ -188,12 +201,21 @@ module _ (c : Certified) (places new : List PlaceState) (flights : FlightsState)
             | inl idle ↦ inl (λ q e. subst (λ (r : PlaceState). IsIdleAt r key) (same_Some t.0 q (sym at ∙ e)) idle)
             | inr last ↦ elim last [
               | inl begins ↦ inr (inl (record { old = p; new = t.0; old_is = there; new_is = at; begins = begins }))
-              | inr sends ↦ inr (inr (subst (λ (g : FlightsState). flights.posted < g.posted) (sym same) (posted_more roomy out sends)))
+              | inr sends ↦ inr (inr (record {
+                  old = p;
+                  new = t.0;
+                  old_is = there;
+                  new_is = at;
+                  sent = out;
+                  sends = sends_last key p n out t.0 t.2.ran sends;
+                  posted = ap (λ (g : FlightsState). g.posted) same ∙ posted_more roomy out;
+                }))
             ]
           ]
 
       all : n < most → IsIdleNow (world_of c new after false) id key
-          ⊎ (BeganLast (world_of c places flights false) id key n (world_of c new after false) ⊎ flights.posted < after.posted)
+          ⊎ (BeganLast (world_of c places flights false) id key n (world_of c new after false)
+          ⊎ SentLast (world_of c places flights false) id key n (world_of c new after false))
       all less = all_at (slice_get places id) refl less
 
   pub stretches_refused : (after : FlightsState) (why : Stop) → RunsOne places new id key most n (Err why) → after ≡ with_room flights
@@ -235,6 +257,7 @@ module _ (c : Certified) (places new : List PlaceState) (flights : FlightsState)
               places = inr (
                 id,
                 ran.0,
+                refl,
                 here,
                 t.1 ∙ ap (λ x. slice_set places id x) ran.2
                     ∙ sym (set-set places id ran.0 (record ran.0 { stopped = true })),

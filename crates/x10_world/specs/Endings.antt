@@ -46,23 +46,22 @@ abbrev pub IsHinderedNext : WorldState → List Event → ℕ → Stop → Type 
 IsHinderedNext x events n why = (next : Event) × (slice_get events n ≡ Some next)
     × IsHinderedAt x next why
 
--- A run of the machine, from its opening, under the events that were made: none goes wrong, and no activity takes more
+-- A run of the machine, from its opening, where main has key 0, under the events that were made: none goes wrong, and no activity takes more
 -- steps than its bound; and where no frame is in flight, none waits at the end of a finish that may end (`course`). The
 -- world is opened at so many places, which is a permitted number, and each event leads from one of its states to the next.
 -- All events were made, or a Stop is told of the one after them, and why it was refused; the lines, and whether the run has
 -- ended, are those of the last state.
 pub record IsEndingOf (c : Certified) (count : ℕ) (events : List Event)
     (outputs : List (List machine.Line)) (e : Ending) : Type 0 where
-  pub key : ℕ
   pub last : World
   pub run : Run Ideal (record { program = c.program; places = count }) (WithinBounds c.bounds)
-      (opening (record { program = c.program; places = count }) key)
+      (opening (record { program = c.program; places = count }) 0)
       (take e.done events) last
   pub first : WorldState
   pub opened : IsOpenedWorld c count first
   pub final : WorldState
   pub course : Course (record { program = c.program; places = count }) c.bounds first
-      (opening (record { program = c.program; places = count }) key)
+      (opening (record { program = c.program; places = count }) 0)
       (take e.done events) final last
   pub stands : StandsForWorld final last
   pub permitted : IsForbidden c count → ⊥

@@ -9,7 +9,7 @@ use Rattle.x10_place.specs.StandsFor.{PlaceState}
 use Rattle.x10_flights.specs.Flights.{FlightsState}
 use Rattle.x10_world.specs.StandsForWorld.{WorldState, KeepsSetting, StandsForWorld, world_of, IsWorld, AllStandFor, MakesEvent, IsIdleNow, BeganLast}
 use Rattle.x10_world.specs.Happenings.{Happened, CanHappen}
-use Rattle.x10_world.specs.Runs.{IsSameWorld, RunsThrough, RepeatsThrough, StopsAt, IsHaltedStretch}
+use Rattle.x10_world.specs.Runs.{IsSameWorld, RunsThrough, RepeatsThrough, SentLast, StopsAt, IsHaltedStretch}
 
 -- What an event does to the places and to the frames of a world that has not stopped: an event of each world of the machine
 -- for which they stand; or it is refused, and they stand for what they stood for.
@@ -48,6 +48,6 @@ pub record Stretches (c : Certified) (places : List PlaceState) (flights : Fligh
       → RepeatsThrough (world_of c places flights false) w n id key (world_of c new after false)))
   pub all : IfOk result (λ n. n < most → IsIdleNow (world_of c new after false) id key ⊎
       (BeganLast (world_of c places flights false) id key n (world_of c new after false)
-      ⊎ flights.posted < after.posted))
+      ⊎ SentLast (world_of c places flights false) id key n (world_of c new after false)))
   pub halted : IfErr result (IsHaltedStretch (world_of c places flights false) id key most
       (world_of c new after true))

@@ -23,7 +23,7 @@ pub record AreOpened (verified : Certified) (count : ℕ) (places : List PlaceSt
 abbrev pub IsForbidden : Certified → ℕ → Type 0
 IsForbidden verified count = (count < verified.program.least_places) ⊎ (MOST_PLACES < count)
 
--- a world of so many places at the beginning, that stands for the machine's opening
+-- a world of so many places at the beginning, that stands for the machine's opening, where main has key 0
 pub record IsOpenedWorld (verified : Certified) (count : ℕ) (x : WorldState) : Type 0 where
   pub program : x.program ≡ verified.program
   pub bounds : x.bounds ≡ verified.bounds
@@ -31,4 +31,4 @@ pub record IsOpenedWorld (verified : Certified) (count : ℕ) (x : WorldState) :
   pub stopped : x.stopped ≡ false
   pub flying : x.flights.flying ≡ []
   pub posted : x.flights.posted ≡ 0
-  pub stands : (key : ℕ) × StandsForWorld x (opening (world.setting_of_world x) key)
+  pub stands : StandsForWorld x (opening (world.setting_of_world x) 0)

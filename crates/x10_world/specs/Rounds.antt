@@ -146,9 +146,13 @@ IsCut x limit y (halt.Stop why) = IsHaltedIn x limit y why
 IsCut x limit y halt.Limit = ⊥
 IsCut x limit y halt.Memory = (n : ℕ) × (n ≤ limit) × RunsIn x n y × (y.stopped ≢ true)
 
--- or they were as many
+-- the run has not ended, unless no event was allowed
+abbrev pub IsOpenAt : ℕ → WorldState → Type 0
+IsOpenAt limit y = 0 < limit → IsClosed y.places → ⊥
+
+-- or they were as many, and the run has not ended
 abbrev pub IsHalted : WorldState → ℕ → WorldState → Unfinished → Type 0
-IsHalted x limit y halt.Limit = RunsIn x limit y × (y.stopped ≢ true)
+IsHalted x limit y halt.Limit = RunsIn x limit y × ((y.stopped ≢ true) × IsOpenAt limit y)
 IsHalted x limit y why = IsCut x limit y why
 
 -- at most so many events were made, and the world goes on

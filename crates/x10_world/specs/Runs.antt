@@ -2,11 +2,14 @@
 use Rattle.std.specs.Prelude.{◌≡◌, ◌≢◌, ◌⊎◌, ℕ, ◌+◌, ◌≤◌, Bool, List, [], ◌∷◌, Some, true, map, replicate, slice_get, slice_set, take}
 use Rattle.x10_kinds.specs.declared.stop.Stop.{Stop}
 use Rattle.x10_model.specs.declared.event.Event.{Event}
-use Rattle.x10_model.specs.declared.event.Event.TheVariants.{Step}
+use Rattle.x10_model.specs.declared.event.Event.TheVariants.{Step, Deliver}
 use Rattle.x10_model.specs.Places.{Setting, Waits}
 use Rattle.x10_model.specs.Worlds.{World, Ideal, Happens, Steps, GoesWrong, Run, WithinBounds}
+use Rattle.x10_place.specs.declared.sent.Sent.{Sent}
 use Rattle.x10_place.specs.StandsFor.{PlaceState}
-use Rattle.x10_world.specs.Happenings.{AreUnchanged, Happened}
+use Rattle.x10_place.specs.Stretches.{SendsLast}
+use Rattle.x10_flights.specs.Flights.{Flight, flight_of}
+use Rattle.x10_world.specs.Happenings.{AreUnchanged, Happened, frame_count}
 use Rattle.x10_world.specs.Prompt.{IsPrompt}
 use Rattle.x10_world.specs.StandsForWorld.{WorldState, KeepsSetting, setting_of_world, StandsForWorld, IsHinderedAt}
 
@@ -27,15 +30,22 @@ pub record Follows (x : WorldState) (event : Event) (y : WorldState) : Type 0 wh
   pub kept : KeepsSetting x y
   pub goes : y.stopped ≢ true
 
--- the places are as they were; or one of them has stopped, and is else as it was
-abbrev pub AreHalted : List PlaceState → List PlaceState → Type 0
-AreHalted old new = (new ≡ old) ⊎ ((id : ℕ) × (p : PlaceState) × (slice_get old id ≡ Some p)
-    × (new ≡ slice_set old id (record p { stopped = true })))
+-- the place to which an event happens: the one of a step, or the one that a delivery's frame is for
+abbrev pub IsPlaceOf : WorldState → Event → ℕ → Type 0
+IsPlaceOf x (Step here key) id = id ≡ here
+IsPlaceOf x (Deliver number) id = (f : Flight) × (flight_of x.flights number ≡ Some f)
+    × (id ≡ f.to)
+
+-- the places are as they were; or the one to which the event would have happened has stopped, and is else as it was
+abbrev pub AreHalted : WorldState → Event → List PlaceState → Type 0
+AreHalted x event new = (new ≡ x.places) ⊎ ((id : ℕ) × (p : PlaceState) × IsPlaceOf x event id
+    × (slice_get x.places id ≡ Some p)
+    × (new ≡ slice_set x.places id (record p { stopped = true })))
 
 -- An event was refused, and why: the world has stopped, and all that it had is as it was.
 pub record StopsAt (x : WorldState) (event : Event) (why : Stop) (y : WorldState) : Type 0 where
   pub hindered : IsHinderedAt x event why
-  pub places : AreHalted x.places y.places
+  pub places : AreHalted x event y.places
   pub flights : AreUnchanged x.flights y.flights
   pub kept : KeepsSetting x y
   pub stopped : y.stopped ≡ true
@@ -114,6 +124,16 @@ pub record RepeatsThrough (x : WorldState) (w : World) (n here key : ℕ)
     (y : WorldState) : Type 0 where
   pub runs : RunsThrough x w (replicate n (Step here key)) y
   pub moves : MovesOn (setting_of_world x) here key w n runs.last
+
+-- the last of so many Steps of the key at the place put out a frame or two, and none before it did
+pub record SentLast (x : WorldState) (place key n : ℕ) (y : WorldState) : Type 0 where
+  pub old : PlaceState
+  pub new : PlaceState
+  pub old_is : slice_get x.places place ≡ Some old
+  pub new_is : slice_get y.places place ≡ Some new
+  pub sent : Sent
+  pub sends : SendsLast key old n sent new
+  pub posted : y.flights.posted ≡ x.flights.posted + frame_count sent
 
 -- so many were made, and the next was refused
 pub record IsHaltedStretch (x : WorldState) (here key most : ℕ) (y : WorldState)

@@ -370,10 +370,6 @@ pub record GoesBelow (count : ℕ) (out : Sent) : Type 0 where
   pub message : IsSentBelow count out.message
   pub report : IsSentBelow count out.report
 
--- the last of so many Steps of the key at the place put out a frame
-abbrev pub SentLast : WorldState → WorldState → Type 0
-SentLast x y = x.flights.posted < y.flights.posted
-
 -- the last of so many Steps of the key at the place began an activity
 pub record BeganLast (x : WorldState) (place key n : ℕ) (y : WorldState) : Type 0 where
   pub old : PlaceState

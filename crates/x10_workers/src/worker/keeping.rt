@@ -1,5 +1,6 @@
 //! What a worker keeps of its turns, and posts of them.
-ghost use Rattle.std.specs.Prelude.{◌≡◌, IsTrue, IfOk};
+ghost use Rattle.std.specs.Prelude.{◌≡◌, IsTrue, IfErr, IfOk};
+ghost use Rattle.x10_workers.specs.Causes.{Halts};
 ghost use Rattle.x10_workers.specs.Workings.{IsSilent, AreAlike, IsAgain, KeepsTurn};
 
 use crate::frames::{numbers_of, shared};
@@ -30,6 +31,7 @@ impl<'a> Worker<'a> {
     pub(super) fn keep(&mut self, own: OwnTurn, port: &impl Port) -> Result<(), Halt>
         ensures place { self.new.place ≡ self.old.place }
         ensures kept { IfOk result (λ _. KeepsTurn own self.old.kept.items self.new.kept.items) }
+        ensures halts { IfErr result (Halts self.old.place) }
     {
         let sends = !own.frames.is_empty();
         self.add(own)?;
@@ -92,6 +94,7 @@ impl<'a> Worker<'a> {
     pub fn post(&mut self, port: &impl Port) -> Result<(), Halt>
         ensures place { self.new.place ≡ self.old.place }
         ensures kept { self.new.kept ≡ self.old.kept }
+        ensures halts { IfErr result (Halts self.old.place) }
     {
         if self.unposted.is_empty() {
             return Ok(());

@@ -3,7 +3,7 @@ ghost use Rattle.std.specs.Prelude.{◌≡◌, ◌≢◌, ◌≤◌, ℕ, true, 
 ghost use Rattle.x10_kinds.specs.declared.stop.Stop.TheVariants as stop;
 ghost use Rattle.x10_world.specs.declared.rounds.Unfinished.TheVariants as halt;
 ghost use Rattle.x10_world.specs.Queries.{IsClosed};
-ghost use Rattle.x10_world.specs.Rounds.{NoneIsLeft, RunsTo, IsHalted, HasMade, Advances, AdvancesOrEnds};
+ghost use Rattle.x10_world.specs.Rounds.{NoneIsLeft, RunsTo, IsOpenAt, IsHalted, HasMade, Advances, AdvancesOrEnds};
 
 use crate::rounds::events::{beside, make, sweep_first};
 use crate::rounds::parts::{Frames, Part, Steps, Sweeps};
@@ -352,6 +352,20 @@ impl Rounds {
     }
 }
 
+impl<'a> World<'a> {
+    /// What a run returns that has made `limit` events, as many as were allowed: Limit, unless the last of them ended it.
+    pub fn at_limit(&self, limit: u64) -> Result<(), Unfinished>
+        ensures ended { IfOk result (λ _. NoneIsLeft self.now) }
+        ensures closed { IfOk result (λ _. IsClosed self.now.places) }
+        ensures open { IfErr result (λ why. (why ≡ halt.Limit) × IsOpenAt limit self.now) }
+    {
+        if limit > 0 && self.closed() {
+            return Ok(());
+        }
+        Err(Unfinished::Limit)
+    }
+}
+
 /// Runs a world in rounds until the run has ended, with at most `limit` events, idle ones included: those of `Rounds`, one
 /// after another. Whether the run has ended is checked after each event, before whether there may be another one: only events
 /// at place 0 can end it. The answer is Limit exactly where `limit` events were made and the last one didn't end it. A world
@@ -380,8 +394,8 @@ pub fn run_rounds(alloc: Global, world: &mut World, limit: u64) -> Result<(), Un
         }
         left -= made;
         if left == 0 {
-            return Err(Unfinished::Limit);
+            return world.at_limit(limit);
         }
     }
-    Err(Unfinished::Limit)
+    world.at_limit(limit)
 }

@@ -2,8 +2,8 @@
 ghost use Rattle.std.specs.Prelude.{◌≡◌, ◌≢◌, ◌<◌, ◌≤◌, ◌↔◌, ◌⊎◌, ℕ, true, false, IsTrue, IfOk, IfErr, Ok, Err, Some, None, [], ◌∷◌, take};
 ghost use Rattle.x10_kinds.specs.declared.stop.Stop.TheVariants as stop;
 ghost use Rattle.x10_model.specs.Worlds as machine;
-ghost use Rattle.x10_world.specs.StandsForWorld.{StandsForWorld, KeepsSetting, MakesEvent, IsIdleNow, BeganLast, SentLast, with_posted, with_sent, GoesBelow, stop_for_refusal};
-ghost use Rattle.x10_world.specs.Runs.{IsSameWorld, RunsThrough, StopsAt, Repeats, RepeatsThrough, IsHaltedStretch};
+ghost use Rattle.x10_world.specs.StandsForWorld.{StandsForWorld, KeepsSetting, MakesEvent, IsIdleNow, BeganLast, with_posted, with_sent, GoesBelow, stop_for_refusal};
+ghost use Rattle.x10_world.specs.Runs.{IsSameWorld, RunsThrough, StopsAt, Repeats, RepeatsThrough, SentLast, IsHaltedStretch};
 ghost use Rattle.x10_world.specs.EventAnswers.{AnswersEvent};
 ghost use Rattle.x10_model.specs.declared.event.Event.TheVariants.{Step, Deliver};
 ghost use Rattle.x10_world.specs.Happenings.{CanHappen, Happened, IsStood, IsReceiver, HasDone};
@@ -215,12 +215,13 @@ impl<'a> World<'a> {
             → (n : ℕ) × (n ≤ most) × Repeats self.old w n place key self.new }
         ensures few { IfOk result (λ n. n ≤ most) }
         ensures all { IfOk result (λ n. n < most → IsIdleNow self.new place key
-            ⊎ (BeganLast self.old place key n self.new ⊎ SentLast self.old self.new)) }
+            ⊎ (BeganLast self.old place key n self.new
+            ⊎ SentLast self.old place key n self.new)) }
         ensures waits { IfOk result (λ n. n < most → self.new.flights.flying ≡ []
             → (w : machine.World) (number : ℕ) → StandsForWorld self.new w
             → WorksIn w place key number → IsFree (stays_of w.net place) key
             → MayEnd w (record { home = place; number = number })
-            → BeganLast self.old place key n self.new ⊎ SentLast self.old self.new) }
+            → BeganLast self.old place key n self.new ⊎ SentLast self.old place key n self.new) }
         ensures stopped { self.old.stopped ≡ true → (result ≡ Err stop.Stopped)
             × (self.new ≡ self.old) }
         ensures goes { IfOk result (λ _. self.new.stopped ≢ true) }

@@ -18,7 +18,8 @@ returns-in-Ok-clause-ended w = λ c.
     run_ended c.args.task.now.json c.print_with_log.result c.args.bytes.now c.in_ok-verified.verified c.args.task.now.places
     c.places_of-places.result (option_map string_bytes c.print_with_log.new.log) c.in-Ok.report.log.items
     (lines_in c.in-Ok.report.outputs.items) (w.O.Write.contents c.args.out.now) (w.O.Write.contents c.print_with_log.new.out)
-    c.in_ok-verified.ensures.found c.places_of-places.ensures c.in-Ok.ensures.ok c.print_with_log.ensures.log c.print_with_log.ensures.ok
+    c.in_ok-verified.ensures.found c.places_of-places.ensures c.in-Ok.ensures.ok
+    (λ forbidden. absurd (let refused = c.in-Ok.ensures.places.1 forbidden in cc)) c.in-Ok.ensures.within c.print_with_log.ensures.log c.print_with_log.ensures.ok
 
 pub returns-clause-refused : goal.returns-clause-refused
 returns-clause-refused g = λ c.

@@ -4,6 +4,7 @@ use Rattle.std.proofs.lemmas.Option.{slice_get_past}
 use Rattle.x10_workers.specs.Looms.{woven}
 use Rattle.x10_workers.specs.Weaves.{WeavesAll, IsDifference, nothing_woven}
 use Rattle.x10_workers.proofs.LogRuns.{are_begun, woven_is_played}
+use Rattle.x10_workers.proofs.ShortTurns.{woven_within}
 use Rattle.x10_workers.proofs.WorkLemmas.{when_none, true_false}
 use Rattle.x10_workers.proofs.weaving.weave.Goals as goal
 
@@ -38,3 +39,8 @@ returns-in-Ok-outputs_of-clause-whole c = record {
   trail_is = sym c.in-Some.ensures.value;
   closed = sym c.is_closed.ensures ∙ c.if-is_closed.true;
 }
+
+pub returns-in-Ok-outputs_of-clause-within : goal.returns-in-Ok-outputs_of-clause-within
+returns-in-Ok-outputs_of-clause-within c = woven_within c.args.trails.now (nothing_woven (length c.args.trails.now)) c.args.log.now.items
+    (woven c.weave_all.new.self) (λ id t is. (c.assure.ensures id t is).0)
+    (subst (λ x. WeavesAll c.args.trails.now x c.args.log.now.items (woven c.weave_all.new.self)) c.in-Ok.ensures c.in_ok-weave_all.ensures.ok)

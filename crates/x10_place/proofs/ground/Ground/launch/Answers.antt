@@ -43,5 +43,5 @@ returns-clause-ok c =
     c.insert_reserved.result _ c.enter.new.frame (frames_of c.new.result.items) c.new-2.result.items
     is_open settles (taken_beside c.frame.new.self c.args.self.now.store c.settle.new.store.heap c.args.view.now c.in_ok-roots.roots.items
     (search rules) c.in_ok-roots.ensures.taken)
-    (c.from.ensures ∙ c.registers.ensures.value) c.in_ok-top.ensures.count (search rules) (search rules) entered
+    (c.from.ensures ∙ c.registers.ensures.value) c.in_ok-top.ensures.count (search rules) (search rules) (search rules) entered
     (ap frames_of c.new.ensures.items) c.new-2.ensures.items (search rules)

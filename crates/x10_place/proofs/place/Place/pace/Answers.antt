@@ -24,8 +24,8 @@ returns-else-is_nothing-clause-ends c =
     elim c.else-is_nothing.branch [
       | else-is_nothing-via-then-is_nothing+else-not-contains w ↦
           ends_by_begun c.args.key c.args.moved.now c.args.self.now c.step.new.self c.in_ok-step.field-0 step.idle step.only step.some step.stopped
-          step.goes step.kept c.in-Moved.sent c.in-Moved.is c.vacant_key-vacant.result c.vacant_key-vacant.ensures.vacant
-          (w.contains.ensures.0 w.if-not-contains.false)
+          step.goes step.kept c.in-Moved.sent c.in-Moved.is c.vacant_key-vacant.result c.vacant_key-vacant.ensures.value
+          c.vacant_key-vacant.ensures.vacant (w.contains.ensures.0 w.if-not-contains.false)
       | else-is_nothing-via-then-is_nothing+then-not-contains+else-live w ↦
           ends_by_end c.args.key c.args.moved.now c.args.self.now c.step.new.self c.in_ok-step.field-0 step.idle step.only step.some step.stopped
           step.goes step.kept c.in-Moved.sent c.in-Moved.is

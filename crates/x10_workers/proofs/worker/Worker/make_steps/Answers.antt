@@ -2,6 +2,10 @@ use Rattle.std.proofs.Common.{◌++◌, map, sym, subst, ◌∙◌}
 use Rattle.x10_hall.specs.Halls.{frame_of}
 use Rattle.x10_workers.specs.Trails.{StepsEach}
 use Rattle.x10_workers.proofs.WorkLemmas.{steps_more}
+use Rattle.x10_kinds.specs.declared.stop.Stop.TheVariants as stop
+use Rattle.x10_workers.specs.Causes.{Halts}
+use Rattle.x10_workers.specs.declared.halt.Halt.TheVariants as halt
+use Rattle.x10_workers.proofs.CauseLemmas.{halts_stepped, memory_halts, told_as}
 use Rattle.x10_workers.proofs.worker.Worker.make_steps.Goals as goal
 
 pub loop-preserved : goal.loop-preserved
@@ -17,4 +21,14 @@ loop-preserved c =
       goes = adds.goes;
       still = λ e. let s = adds.still e in s.1 ∙ old.still s.0;
       kept = c.in_ok-make_some.ensures.kept ∙ old.kept;
+      few = adds.few;
     }
+
+pub returns-in_err-key-clause-halts : goal.returns-in_err-key-clause-halts
+returns-in_err-key-clause-halts c = told_as c.from_residual.result (halt.Stop stop.Memory) (Halts c.args.self.now.place) c.from_residual.ensures.1
+    (memory_halts c.args.self.now.place)
+
+pub returns-in_err-make_some-clause-halts : goal.returns-in_err-make_some-clause-halts
+returns-in_err-make_some-clause-halts c = told_as c.from_residual-in_err-make_some.result c.in_err-make_some.field-0.0 (Halts c.args.self.now.place)
+    c.from_residual-in_err-make_some.ensures.1 (halts_stepped c.args.self.now.place c.loop.self.place c.loop.steps.keys (map frame_of c.loop.steps.frames.items)
+    c.in_err-make_some.field-0.0 c.loop.invariant.steps c.in_err-make_some.ensures.halts)

@@ -1,7 +1,7 @@
 use Rattle.std.proofs.Common.{◌+◌, subst, arith}
 use Rattle.x10_world.specs.declared.rounds.Unfinished.TheVariants as halt
 use Rattle.x10_world.specs.Rounds.{RunsIn}
-use Rattle.x10_world.proofs.RunCounts.{err_if, runs_self, runs_on, in_none, in_on, in_to, cut_to, cut_on, cut_is_halt}
+use Rattle.x10_world.proofs.RunCounts.{err_if, runs_self, runs_on, in_none, in_on, in_to, cut_to, cut_on, cut_is_halt, limit_made, limit_halted}
 use Rattle.x10_world.proofs.rounds.drive.run_rounds.Goals as goal
 
 pub returns-in_err-going-clause-runs : goal.returns-in_err-going-clause-runs
@@ -78,14 +78,19 @@ returns-then-left-eq0-clause-runs c = in_to c.args.world.now c.run_turn.new.worl
     (in_on c.args.world.now c.loop.world c.run_turn.new.world c.loop.invariant.done c.in_ok-made.made c.loop.invariant.runs
     c.in_ok-made.ensures.made.0.runs)
 
+pub returns-then-left-eq0-clause-made : goal.returns-then-left-eq0-clause-made
+returns-then-left-eq0-clause-made c = λ on. limit_made c.at_limit.result c.args.world.now c.run_turn.new.world c.args.limit
+    (subst (λ n. RunsIn c.args.world.now n c.run_turn.new.world)
+    (omega (arith, c.loop.invariant.all, c.in_ok-made.ensures.made.0.few, c.if-left-eq0.true))
+    (in_on c.args.world.now c.loop.world c.run_turn.new.world c.loop.invariant.done c.in_ok-made.made c.loop.invariant.runs
+    c.in_ok-made.ensures.made.0.runs)) c.in_ok-made.ensures.made.0.goes
+
 pub returns-then-left-eq0-clause-halted : goal.returns-then-left-eq0-clause-halted
-returns-then-left-eq0-clause-halted c = λ on. (
-  subst (λ n. RunsIn c.args.world.now n c.run_turn.new.world)
-      (omega (arith, c.loop.invariant.all, c.in_ok-made.ensures.made.0.few, c.if-left-eq0.true))
-      (in_on c.args.world.now c.loop.world c.run_turn.new.world c.loop.invariant.done c.in_ok-made.made c.loop.invariant.runs
-      c.in_ok-made.ensures.made.0.runs),
-  c.in_ok-made.ensures.made.0.goes,
-)
+returns-then-left-eq0-clause-halted c = λ on. limit_halted c.at_limit.result c.args.world.now c.run_turn.new.world c.args.limit
+    (subst (λ n. RunsIn c.args.world.now n c.run_turn.new.world)
+    (omega (arith, c.loop.invariant.all, c.in_ok-made.ensures.made.0.few, c.if-left-eq0.true))
+    (in_on c.args.world.now c.loop.world c.run_turn.new.world c.loop.invariant.done c.in_ok-made.made c.loop.invariant.runs
+    c.in_ok-made.ensures.made.0.runs)) c.in_ok-made.ensures.made.0.goes c.at_limit.ensures.open
 
 pub loop-preserved : goal.loop-preserved
 loop-preserved c = record {
@@ -101,14 +106,22 @@ loop-preserved c = record {
 pub returns-clause-runs : goal.returns-clause-runs
 returns-clause-runs c = in_to c.args.world.now c.loop.world c.loop.invariant.done c.loop.invariant.runs
 
+pub returns-clause-made : goal.returns-clause-made
+returns-clause-made c = λ on. limit_made c.at_limit-2.result c.args.world.now c.loop.world c.args.limit
+    (subst (λ n. RunsIn c.args.world.now n c.loop.world) (omega (
+      arith,
+      c.loop.invariant.all,
+      c.loop.invariant.turns,
+      c.loop-test.false,
+      c.loop.auto.counter-end,
+    )) c.loop.invariant.runs) c.loop.invariant.goes
+
 pub returns-clause-halted : goal.returns-clause-halted
-returns-clause-halted c = λ on. (
-  subst (λ n. RunsIn c.args.world.now n c.loop.world) (omega (
-    arith,
-    c.loop.invariant.all,
-    c.loop.invariant.turns,
-    c.loop-test.false,
-    c.loop.auto.counter-end,
-  )) c.loop.invariant.runs,
-  c.loop.invariant.goes,
-)
+returns-clause-halted c = λ on. limit_halted c.at_limit-2.result c.args.world.now c.loop.world c.args.limit
+    (subst (λ n. RunsIn c.args.world.now n c.loop.world) (omega (
+      arith,
+      c.loop.invariant.all,
+      c.loop.invariant.turns,
+      c.loop-test.false,
+      c.loop.auto.counter-end,
+    )) c.loop.invariant.runs) c.loop.invariant.goes c.at_limit-2.ensures.open

@@ -1,0 +1,73 @@
+-- Why a worker stopped: what its place answered to a step or to a frame, after some of its steps and frames.
+use Rattle.std.specs.Prelude.{◌≡◌, ◌⊎◌, ℕ, List, Result, MatchResult, IfErr, Ok, Err, length, slice_get, Some}
+use Rattle.x10_kinds.specs.declared.limit.Limit.TheVariants as limits
+use Rattle.x10_kinds.specs.declared.stop.Stop.TheVariants as stop
+use Rattle.x10_copy.specs.declared.refusal.Refusal.{Refusal}
+use Rattle.x10_verify.specs.Certified.{Certified}
+use Rattle.x10_place.specs.Receiving.{IsRefusedBytes}
+use Rattle.x10_place.specs.StandsFor.{PlaceState, IsHindered}
+use Rattle.x10_hall.specs.Halls.{PostedFrame}
+use Rattle.x10_world.specs.Opening.{IsOpenedPlace}
+use Rattle.x10_workers.specs.declared.halt.Halt.{Halt}
+use Rattle.x10_workers.specs.declared.halt.Halt.TheVariants as halt
+use Rattle.x10_workers.specs.declared.halt.WorkFault.{WorkFault}
+use Rattle.x10_workers.specs.declared.halt.WorkFault.TheVariants as fault
+use Rattle.x10_workers.specs.declared.jobs.Failure.{Failure}
+use Rattle.x10_workers.specs.declared.jobs.Failure.TheVariants as failure
+use Rattle.x10_workers.specs.declared.trail.Kept.{Kept}
+use Rattle.x10_workers.specs.Halts.{halt_of_refusal}
+use Rattle.x10_workers.specs.Trails.{TakesFrame, StepsEach}
+use Rattle.x10_workers.specs.Workings.{IsKeptOf}
+
+-- a place takes frames in and makes steps, in any order
+pub data GoesTo (p : PlaceState) : PlaceState → Type 0 where
+  stays : GoesTo p p
+  takes : (q r : PlaceState) (bytes : List ℕ) → GoesTo p q → TakesFrame q bytes r → GoesTo p r
+  steps : (q r : PlaceState) (keys : List ℕ) (out : List PostedFrame) → GoesTo p q
+      → StepsEach q keys out r → GoesTo p r
+
+-- Why a worker stops whose place is in this state: memory was refused, the log would have too many frames, a step was refused,
+-- or bytes that came were. Of an end that others asked for nothing is said.
+abbrev pub IsCauseOf : PlaceState → Halt → Type 0
+IsCauseOf p (halt.Stop why) = (why ≡ stop.Memory) ⊎ ((why ≡ stop.Limit limits.Frames)
+    ⊎ (((key : ℕ) × IsHindered p key why) ⊎ ((bytes : List ℕ) × (refused : Refusal)
+    × IsRefusedBytes p bytes refused × (halt_of_refusal refused ≡ halt.Stop why))))
+IsCauseOf p (halt.Refused why) = (bytes : List ℕ) × IsRefusedBytes p bytes why
+IsCauseOf p why = Unit {0}
+
+-- from a place, some of its frames and steps lead to a state in which there is this cause
+pub record Halts (p : PlaceState) (why : Halt) : Type 0 where
+  pub last : PlaceState
+  pub goes : GoesTo p last
+  pub cause : IsCauseOf last why
+
+-- the same from the beginning of a place, one of so many of a module
+pub record HaltsFrom (c : Certified) (places id : ℕ) (why : Halt) : Type 0 where
+  pub first : PlaceState
+  pub opened : IsOpenedPlace c places id first
+  pub halts : Halts first why
+
+-- how the worker of a place ended: with what it kept, or why it stopped; before its place was opened, memory was refused
+abbrev pub IsEndOf : Certified → (places id : ℕ) → Result Kept Halt → Type 0
+IsEndOf c places id end = MatchResult end (IsKeptOf c places id)
+    (λ why. (why ≡ halt.Stop stop.Memory) ⊎ HaltsFrom c places id why)
+
+-- how the workers of so many places ended, by place
+pub record AreAllEnds (c : Certified) (places : ℕ) (ends : List (Result Kept Halt)) : Type 0 where
+  pub count : length ends ≡ places
+  pub each : (id : ℕ) (end : Result Kept Halt) → slice_get ends id ≡ Some end
+      → IsEndOf c places id end
+
+-- what failed, if it was a worker, is the cause at its place
+abbrev pub IsFailureOf : Certified → ℕ → Failure → Type 0
+IsFailureOf c places (failure.Worker place why) = (why ≡ halt.Stop stop.Memory)
+    ⊎ HaltsFrom c places place why
+IsFailureOf c places f = Unit {0}
+
+-- a fault that names a place tells what stopped its worker
+abbrev pub IsCausedAt : Certified → ℕ → WorkFault → Type 0
+IsCausedAt c places (fault.Stop place why report) = IsFailureOf c places
+    (failure.Worker place (halt.Stop why))
+IsCausedAt c places (fault.Refused place why) = IsFailureOf c places
+    (failure.Worker place (halt.Refused why))
+IsCausedAt c places f = Unit {0}
