@@ -26,11 +26,11 @@ const OBJECTS: &[(u16, &[u64])] = &[
     (2, &[]),
 ];
 
-/// The words that go along, of the kinds of `mixed_slots`: objects, a null, one text twice and one that is equal to it, a
-/// rail, numbers, places and global references of both places.
+/// The words that go along: objects, a null, one text twice and one that is equal to it, a rail, numbers, places and global
+/// references of both places.
 const WORDS: [u64; 16] = [2, 0, 1, 2, 1, 1, u64::MAX, 1, 0, 1, 6, 5, 2, 0, 0, 0];
 
-/// Their frame: the objects 1, 5, 4, 2 and 3 of `mixed` in this order, its texts 1 and 2, and its rail 1.
+/// Their frame: the objects 1, 5, 4, 2 and 3 of the graph in this order, its texts 1 and 2, and its rail 1.
 const SHARED: [u8; 369] = [
     2, 1, 0, 0, 0, 1, 0, 0, 0, 0, 0, 1, 0, 0, 0, 16, 0, 0, 0, 2, 0, 0, 0, 1, 0, 0, 0, 5, 5, 0, 0,
     0, 0, 6, 3, 0, 0, 0, 0, 3, 0, 0, 0, 1, 3, 0, 0, 0, 0, 4, 0, 0, 0, 0, 1, 255, 255, 255, 255,

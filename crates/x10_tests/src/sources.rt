@@ -1,4 +1,4 @@
-//! What many tests begin with. These calls promise nothing, so that a test is proved from its own calls alone.
+//! What many tests begin with.
 use std::alloc::Global;
 use std::test::*;
 use x10_asm::assemble;

@@ -205,7 +205,7 @@ fn counted(tally: &Tally, finish: Finish) -> (u32, usize, usize) {
     )
 }
 
-/// The finishes as a slice, of which a proof sees only the type.
+/// The finishes as a slice.
 fn met() -> &'static [Finish] {
     MET
 }
@@ -365,8 +365,8 @@ fn a_book_is_used_again(rt: HostRuntime) -> Result<(), Fail> {
     Ok(())
 }
 
-/// Every answer is right, or it is that a growth was refused and nothing has changed: to be run with each allocation
-/// failing in turn.
+/// Every answer is right, or it is that a growth was refused and nothing has changed. It can be run with one request refused, by
+/// `rt try --test --fail-alloc N`.
 #[test]
 fn refused_growth_changes_nothing(rt: HostRuntime) {
     let mut tally = Tally::new(rt.alloc(), 1, 3);

@@ -54,7 +54,7 @@ const TABLE: [(u8, &str, [u8; 4]); 46] = [
     (0x30, "ATOME", [0, 0, 0, 0]),
 ];
 
-/// The table as a slice, of which a proof sees only the type.
+/// The table as a slice.
 fn table() -> &'static [(u8, &'static str, [u8; 4])] {
     &TABLE
 }

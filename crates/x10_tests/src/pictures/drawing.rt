@@ -29,8 +29,6 @@ fn noted(
     Ok(())
 }
 
-// (a check grows with the values that are dropped times the ways to return, so no function here holds more than two of them)
-
 /// Makes the next events of a run, at most `limit`, and doesn't keep what was noted of them.
 fn pass(
     alloc: Global,

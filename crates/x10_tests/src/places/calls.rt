@@ -31,8 +31,7 @@ pub(crate) fn opened<'a>(
     Ok(place_of(alloc, verified, id, places).ok_or("the place is there")?)
 }
 
-/// What a test does at a place of the run of an image. (A check grows with the values that are dropped times the ways to return:
-/// so a program and its place are held here, and a test has neither.)
+/// What a test does at a place of the run of an image.
 pub(crate) fn at_place<F: FnOnce(&mut Place) -> Result<(), Fail>>(
     alloc: Global,
     image: &[u8],
@@ -71,7 +70,7 @@ pub(crate) fn idles(place: &mut Place, key: usize) -> bool {
     matches!(place.step(key), Ok(Stepped::Idle))
 }
 
-/// How far many steps go, where no memory is refused.
+/// How many steps are made, of at most so many.
 pub(crate) fn ran(place: &mut Place, key: usize, most: u64) -> Option<u64> {
     match place.run(key, most) {
         (steps, Ok(_)) => Some(steps),

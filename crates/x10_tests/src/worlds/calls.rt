@@ -138,8 +138,7 @@ fn has_printed(world: &World) -> bool {
     matches!(world.output(0), Some([Line::Int(7)]))
 }
 
-/// What a test does with a world of `SEVEN` at two places. (A check grows with the values that are dropped times the ways to
-/// return: so a program and its world are held here, and a test has neither.)
+/// What a test does with a world of `SEVEN` at two places.
 fn in_world<F: FnOnce(&mut World) -> Result<(), Fail>>(alloc: Global, test: F) -> Result<(), Fail>
     requires { F.IsAlwaysCallable test }
 {
