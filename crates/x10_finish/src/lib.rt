@@ -3,7 +3,7 @@
 #![tactic(auto)]
 
 mod book;
-mod count;
+pub mod count;
 pub mod laws;
 mod met;
 mod pair_list;
@@ -13,6 +13,3 @@ mod tally;
 
 pub use book::Book;
 pub use tally::Tally;
-
-#[cfg(test)]
-mod tests;

@@ -4,6 +4,7 @@
 mod chance;
 mod frames;
 mod images;
+mod mixed;
 mod programs;
 
 pub use chance::random;
@@ -12,4 +13,5 @@ pub use frames::{
     REPORT, SHIFT, SPAWN,
 };
 pub use images::{SEVEN, with_byte};
-pub use programs::{ALONG, AWAY, RELAY};
+pub use mixed::{MIXED, mixed_frame, mixed_objects, mixed_words};
+pub use programs::{ALONG, AWAY, LOOPS, RELAY};

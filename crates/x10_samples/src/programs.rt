@@ -87,3 +87,19 @@ RET 0
 end
 entry 1
 ";
+
+/// Jumps and loops: 4,096 by doubling.
+pub const LOOPS: &str = "places 1
+int 1
+func 1 2 none
+INTK 0 0
+LOOP 0 3
+LOOP 1 4
+ADD 0 0 0
+ENDL 1 3
+ENDL 0 2
+PRINT 0
+RET 0
+end
+entry 0
+";

@@ -1,0 +1,3 @@
+//! Pictures of runs.
+pub(crate) mod drawing;
+pub(crate) mod drawn;
