@@ -12,6 +12,7 @@ import importlib.util
 import os
 import re
 import shutil
+from operator import attrgetter
 
 # how each check is made
 FLAGS = ["--jobs", "1"]
@@ -91,9 +92,10 @@ def open_kit(command):
         raise Unknown(f"there is no command {command}: put it on the path, or name its file, as in RT=FILE")
     file = os.path.abspath(file)
     rt = load(file)
-    lacks = [it for it in NAMES if not has(rt, it)]
-    if lacks:
-        raise Unknown(f"{file} isn't a kit that ci/kit.py knows: it has no {', no '.join(lacks)}; `rt must-fail` tries edits one by one")
+    try:
+        attrgetter(*NAMES)(rt)
+    except AttributeError as why:
+        raise Unknown(f"{file} isn't of a kit that ci/kit.py knows: {why}; `rt must-fail` tries edits one by one") from why
     return Kit(file, rt)
 
 
@@ -106,13 +108,6 @@ def load(file):
     except (Exception, SystemExit) as why:
         raise Unknown(f"{file} can't be read as a module ({type(why).__name__}); the kits that ci/kit.py knows are 13b and 13f") from why
     return made
-
-
-def has(value, path):
-    """Whether there is something at a path of names below a value."""
-    for name in path.split("."):
-        value = getattr(value, name, None)
-    return value is not None
 
 
 def is_up_to_date(library):

@@ -1,4 +1,4 @@
-"""The edits that must fail, crates/CRATE/must-fail/*.edit, and the functions that they change."""
+"""Mutants, which are the edits crates/CRATE/must-fail/*.edit, and the functions that they change."""
 
 import os
 import re

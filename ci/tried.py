@@ -7,11 +7,11 @@ The list has a line for each edit, sorted: its name, a sum of what its try rests
 - the definitions that the files of these functions import, and those that they import in turn, in this crate and below: whole
   files crates/*/specs/*.antt.
 
-It doesn't cover proofs, types, constants, the contracts of functions that are called, or the kit. What has come true by a change of
-these is found when the edit's turn comes.
+It doesn't cover proofs, types, constants, the contracts of functions that are called, or the kit. An edit that a change of these has
+made provable is found when its turn comes.
 
-`ci/edits --all` writes the list, and nothing else does. So that each run of the gate until then tries other edits, those of one day
-take turns by a sum of the crate's name and today's date.
+Only `ci/edits --all` writes the list. The gate leaves it as it is, and so would choose the same edits in each run. Therefore the
+order of edits with the same day depends on today's date: it is that of a sum of the date and the crate's name.
 """
 
 import hashlib
@@ -65,8 +65,8 @@ def sum_of_edit(edit, tree):
 
 
 def read_rows(file):
-    """The rows of the list, each with the day, by the edit's name and its sum: a merge may leave an edit with two. No other line
-    counts."""
+    """The day of each row of the list, by the edit's name and its sum: after a merge an edit may have two rows. Lines of another form
+    are left out."""
     if not os.path.isfile(file):
         return {}
     with open(file, encoding="utf-8") as it:
@@ -74,8 +74,8 @@ def read_rows(file):
 
 
 def new_rows(rows, sums, refused, today):
-    """The rows after some edits were tried: of those the refused ones have today's, and the others none, so that they count as
-    changed. `sums` has all edits that are there: a row of another one is dropped, or of an edit that changed since."""
+    """The rows after some edits were tried. One that was refused gets a row with today's date. One that wasn't gets none, and so counts
+    as changed. Of the others, the rows whose edit is in `sums` with the same sum stay."""
     made = {(name, sum): rows[name, sum] for name, sum in sums.items() if (name, sum) in rows and name not in refused}
     return {**made, **{(name, sums[name]): today for name, is_refused in refused.items() if is_refused}}
 
@@ -93,8 +93,8 @@ def named_in(page):
 
 
 def chosen(edits, sums, rows, named, today):
-    """The edits that are tried in any case, and the others, those first that weren't tried longest; of one day, crate by crate,
-    since edits of one crate are tried together."""
+    """The edits that are tried in any case, and the others, those that weren't tried longest first. Those of one day come crate by
+    crate, since edits of one crate share a check."""
     days = {it: rows.get((it.label, sums[it.label])) for it in edits}
     always = [it for it in edits if not days[it] or it.label in named]
     others = [it for it in edits if it not in always]
