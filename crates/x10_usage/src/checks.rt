@@ -4,7 +4,7 @@ ghost use Rattle.x10_usage.specs.Tasks.{IsOneTo, IsTask, IsUpTo, has_output};
 ghost use Rattle.x10_usage.specs.Tasks as tasks;
 
 use crate::usage::{EVENTS, SEEDS};
-use crate::words::{MOST_EVENTS, MOST_SEEDS};
+use crate::arguments::{MOST_EVENTS, MOST_SEEDS};
 use x10_model::limits::MOST_PLACES;
 use x10_task::{Schedule, Task, Verb, Window};
 
