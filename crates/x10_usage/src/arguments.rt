@@ -14,16 +14,27 @@ pub(crate) const MOST_SEEDS: u64 = 1_000_000;
 pub(crate) type Commands = u16;
 
 pub(crate) const ASM: Commands = 1;
+
 pub(crate) const LIST: Commands = 1 << 1;
+
 pub(crate) const CHECK: Commands = 1 << 2;
+
 pub(crate) const VERIFY: Commands = 1 << 3;
+
 pub(crate) const BOUNDS: Commands = 1 << 4;
+
 pub(crate) const FRAME: Commands = 1 << 5;
+
 pub(crate) const EXPLAIN: Commands = 1 << 6;
+
 pub(crate) const RUN: Commands = 1 << 7;
+
 pub(crate) const RUNS: Commands = 1 << 8;
+
 pub(crate) const AUDIT: Commands = 1 << 9;
+
 pub(crate) const TRACE: Commands = 1 << 10;
+
 pub(crate) const DRAW: Commands = 1 << 11;
 
 /// The commands that show the events of a run.

@@ -49,21 +49,15 @@ pub fn parse<'a>(alloc: Global, words: &'a [String], explain: bool) -> Result<Ta
     ensures task { IfOk result IsTask }
     ensures answer { IfErr result IsAnswer }
 {
-    match matched(alloc, without_help_of_help(words), explain) {
+    // An option that asks for the help of `help` is left out: that is the program's help.
+    let is_help_of_help = words.len() == 3
+        && words[1].as_str() == "help"
+        && matches!(words[2].as_str(), "--help" | "-h");
+    let words = if is_help_of_help { &words[..2] } else { words };
+    match matched(alloc, words, explain) {
         Ok(task) => Ok(task),
         Err(error) => Err(refusal(alloc, &error)),
     }
-}
-
-/// The words, but for an option that asks for the help of `help`: that is the program's.
-fn without_help_of_help(words: &[String]) -> &[String] {
-    if words.len() == 3
-        && words[1].as_str() == "help"
-        && matches!(words[2].as_str(), "--help" | "-h")
-    {
-        return &words[..2];
-    }
-    words
 }
 
 /// What to say where a word of the command line isn't UTF-8: no name of a file is taken that isn't, as the system's names
