@@ -3,138 +3,130 @@ ghost use Rattle.std.specs.Prelude.{◌≡◌, ◌≢◌, IfSome, IsTrue, None, 
 ghost use Rattle.x10_usage.specs.Tasks.{IsOneTo, IsTask, IsUpTo, has_output};
 ghost use Rattle.x10_usage.specs.Tasks as tasks;
 
+use crate::arguments::{MOST_EVENTS, MOST_SEEDS};
 use crate::usage::{EVENTS, SEEDS};
-use crate::words::{MOST_EVENTS, MOST_SEEDS};
 use x10_model::limits::MOST_PLACES;
 use x10_task::{Schedule, Task, Verb, Window};
+
+/// What a task may have, by its command.
+#[derive(Clone, Copy)]
+struct Takes {
+    /// A file to write. It always has one.
+    output: bool,
+    /// A limit and a schedule.
+    run: bool,
+    /// The first and the last event to show.
+    shown: bool,
+    places: bool,
+    json: bool,
+}
+
+const NOTHING: Takes = Takes {
+    output: false,
+    run: false,
+    shown: false,
+    places: false,
+    json: false,
+};
+
+const RUN: Takes = Takes {
+    run: true,
+    places: true,
+    ..NOTHING
+};
 
 /// Whether a task has what its command takes, with its numbers in their ranges.
 pub(crate) fn is_task(task: &Task) -> bool
     ensures { IsTrue result → IsTask task.now }
 {
-    writes_as_asked(task)
-        && is_place_count(task.places)
-        && is_event_count(task.limit)
-        && is_seed_count(task)
-        && has_numbers_as_asked(task)
-        && threads_are_for_run(task)
+    is_in_range(task)
+        && has_what_it_takes(task)
         && is_schedule(task)
-        && is_window(task)
-        && json_is_for_few(task)
         && stats_are_for_run(task)
         && has_log_as_asked(task)
 }
 
-fn writes_as_asked(task: &Task) -> bool
-    ensures { IsTrue result → is_some task.now.output ≡ has_output task.now.verb }
-{
-    match task.verb {
-        Verb::Asm | Verb::Draw | Verb::DrawPage => task.output.is_some(),
-        _ => task.output.is_none(),
-    }
-}
-
-fn is_place_count(places: Option<u16>) -> bool
-    ensures { IsTrue result → IfSome places (IsOneTo 64) }
-{
-    match places {
-        Some(places) => places >= 1 && places <= MOST_PLACES,
-        None => true,
-    }
-}
-
-fn is_event_count(limit: u64) -> bool
-    ensures { IsTrue result → IsOneTo 1000000000 limit }
-{
-    limit >= 1 && limit <= MOST_EVENTS
-}
-
-/// There is at least one run, and how many there are is said only where there are several.
-fn is_seed_count(task: &Task) -> bool
+fn is_in_range(task: &Task) -> bool
+    ensures places { IsTrue result → IfSome task.now.places (IsOneTo 64) }
+    ensures limit { IsTrue result → IsOneTo 1000000000 task.now.limit }
     ensures seeds { IsTrue result → IsOneTo 1000000 task.now.seeds }
-    ensures runs { IsTrue result → task.now.verb ≢ Verb.Runs → task.now.seeds ≡ 100 }
-{
-    task.seeds >= 1
-        && task.seeds <= MOST_SEEDS
-        && (task.seeds == SEEDS || matches!(task.verb, Verb::Runs))
-}
-
-/// Which events are shown is said only where a run's events are, and the last one isn't before the first one.
-fn is_window(task: &Task) -> bool
     ensures from { IsTrue result → IsOneTo 1000000000 task.now.window.from }
     ensures to { IsTrue result → IfSome task.now.window.to (IsUpTo task.now.window.from) }
-    ensures shown { IsTrue result → tasks.is_shown task.now.verb ≡ false
-        → task.now.window ≡ record { from = 1; to = None } }
 {
     let window = task.window;
-    is_from_to(window) && (is_shown(task.verb) || window == Window::all())
-}
-
-fn is_from_to(window: Window) -> bool
-    ensures from { IsTrue result → IsOneTo 1000000000 window.from }
-    ensures to { IsTrue result → IfSome window.to (IsUpTo window.from) }
-{
-    is_event_count(window.from)
-        && match window.to {
-            Some(to) => window.from <= to && to <= MOST_EVENTS,
-            None => true,
+    match task.places {
+        Some(places) if places < 1 || places > MOST_PLACES => false,
+        _ => {
+            task.limit >= 1
+                && task.limit <= MOST_EVENTS
+                && task.seeds >= 1
+                && task.seeds <= MOST_SEEDS
+                && window.from >= 1
+                && window.from <= MOST_EVENTS
+                && match window.to {
+                    Some(to) => window.from <= to && to <= MOST_EVENTS,
+                    None => true,
+                }
         }
+    }
 }
 
-/// Whether a command shows the events of a run.
-fn is_shown(verb: Verb) -> bool
-    ensures { result ≡ tasks.is_shown verb }
-{
-    matches!(
-        verb,
-        Verb::Trace | Verb::TraceVerbose | Verb::Draw | Verb::DrawPage
-    )
-}
-
-fn is_run(verb: Verb) -> bool
-    ensures { result ≡ tasks.is_run verb }
-{
-    matches!(
-        verb,
-        Verb::Run | Verb::Runs | Verb::Trace | Verb::TraceVerbose | Verb::Draw | Verb::DrawPage
-    )
-}
-
-/// A limit of events is for what runs, and so is a number of places, which a frame has too, and always.
-fn has_numbers_as_asked(task: &Task) -> bool
+/// What its command doesn't take is as it is without a word for it; the places of a frame are always said.
+fn has_what_it_takes(task: &Task) -> bool
+    ensures output { IsTrue result → is_some task.now.output ≡ has_output task.now.verb }
     ensures run { IsTrue result → tasks.is_run task.now.verb ≡ false → task.now.limit ≡ 1000000 }
+    ensures shown { IsTrue result → tasks.is_shown task.now.verb ≡ false
+        → task.now.window ≡ record { from = 1; to = None } }
     ensures placed { IsTrue result → tasks.has_places task.now.verb ≡ false
         → task.now.places ≡ None }
     ensures frame { IsTrue result → task.now.verb ≡ Verb.Frame → is_some task.now.places ≡ true }
+    ensures json { IsTrue result → task.now.json ≡ true → tasks.has_json task.now.verb ≡ true }
+    ensures runs { IsTrue result → task.now.verb ≢ Verb.Runs → task.now.seeds ≡ 100 }
+    ensures threads { IsTrue result → task.now.threads ≡ true → task.now.verb ≡ Verb.Run }
 {
-    match task.verb {
-        Verb::Run | Verb::Runs => true,
-        Verb::Trace | Verb::TraceVerbose | Verb::Draw | Verb::DrawPage => true,
-        Verb::Frame => task.places.is_some() && task.limit == EVENTS,
-        _ => has_no_numbers(task),
+    let takes = taken_by(task.verb);
+    task.output.is_some() == takes.output
+        && (takes.run || task.limit == EVENTS)
+        && (takes.places || task.places.is_none())
+        && (task.places.is_some() || !matches!(task.verb, Verb::Frame))
+        && (takes.json || !task.json)
+        && (task.seeds == SEEDS || matches!(task.verb, Verb::Runs))
+        && (!task.threads || matches!(task.verb, Verb::Run))
+        && (takes.shown || task.window == Window::all())
+}
+
+fn taken_by(verb: Verb) -> Takes
+    ensures { result ≡ record {
+      output = has_output verb;
+      run = tasks.is_run verb;
+      shown = tasks.is_shown verb;
+      places = tasks.has_places verb;
+      json = tasks.has_json verb;
+    } }
+{
+    match verb {
+        Verb::ListVerbose | Verb::Verify | Verb::Bounds | Verb::Explain => NOTHING,
+        Verb::List | Verb::Check | Verb::Audit => Takes {
+            json: true,
+            ..NOTHING
+        },
+        Verb::Asm => Takes {
+            output: true,
+            ..NOTHING
+        },
+        Verb::Frame => Takes {
+            places: true,
+            ..NOTHING
+        },
+        Verb::Run => Takes { json: true, ..RUN },
+        Verb::Runs => RUN,
+        Verb::Trace | Verb::TraceVerbose => Takes { shown: true, ..RUN },
+        Verb::Draw | Verb::DrawPage => Takes {
+            output: true,
+            shown: true,
+            ..RUN
+        },
     }
-}
-
-fn has_no_numbers(task: &Task) -> bool
-    ensures { IsTrue result → (task.now.places ≡ None) × (task.now.limit ≡ 1000000) }
-{
-    task.places.is_none() && task.limit == EVENTS
-}
-
-fn threads_are_for_run(task: &Task) -> bool
-    ensures { IsTrue result → task.now.threads ≡ true → task.now.verb ≡ Verb.Run }
-{
-    !task.threads || matches!(task.verb, Verb::Run)
-}
-
-fn json_is_for_few(task: &Task) -> bool
-    ensures { IsTrue result → task.now.json ≡ true → tasks.has_json task.now.verb ≡ true }
-{
-    !task.json
-        || matches!(
-            task.verb,
-            Verb::List | Verb::Check | Verb::Run | Verb::Audit
-        )
 }
 
 /// What was in a run is told of one in this thread, and each activity only besides that.
@@ -150,7 +142,8 @@ fn stats_are_for_run(task: &Task) -> bool
     }
 }
 
-/// An audit reads a log, a trace or a picture may be of one, and a run with threads may write one.
+/// An audit reads a log, a trace or a picture may be of one, and a run with threads may write one. Where a log is read, it says how
+/// many places there are, and which events happen in which order.
 fn has_log_as_asked(task: &Task) -> bool
     ensures log { IsTrue result → is_some task.now.log ≡ true
         → tasks.may_have_log task.now.verb task.now.threads ≡ true }
@@ -159,26 +152,14 @@ fn has_log_as_asked(task: &Task) -> bool
         → (task.now.places ≡ None) × (task.now.limit ≡ 1000000)
         × (task.now.schedule ≡ Schedule.Rounds) }
 {
-    if !log_says_the_rest(task) {
-        return false;
+    if task.log.is_none() {
+        return !matches!(task.verb, Verb::Audit);
     }
     match task.verb {
-        Verb::Audit => task.log.is_some(),
-        Verb::Run => task.log.is_none() || task.threads,
-        Verb::Trace | Verb::TraceVerbose | Verb::Draw | Verb::DrawPage => true,
-        _ => task.log.is_none(),
-    }
-}
-
-/// Where a log is read, it says how many places there are, and which events happen in which order.
-fn log_says_the_rest(task: &Task) -> bool
-    ensures { IsTrue result → is_some task.now.log ≡ true → task.now.verb ≢ Verb.Run
-        → (task.now.places ≡ None) × (task.now.limit ≡ 1000000)
-        × (task.now.schedule ≡ Schedule.Rounds) }
-{
-    match task.schedule {
-        _ if task.log.is_none() || matches!(task.verb, Verb::Run) => true,
-        Schedule::Rounds => has_no_numbers(task),
+        Verb::Run => task.threads,
+        Verb::Audit | Verb::Trace | Verb::TraceVerbose | Verb::Draw | Verb::DrawPage => {
+            task.places.is_none() && task.limit == EVENTS && task.schedule == Schedule::Rounds
+        }
         _ => false,
     }
 }
@@ -191,7 +172,7 @@ fn is_schedule(task: &Task) -> bool
     ensures seed { IsTrue result → is_some task.now.seed ≡ true
         → task.now.schedule ≡ Schedule.Random }
 {
-    let runs_here = is_run(task.verb) && !matches!(task.verb, Verb::Runs) && !task.threads;
+    let runs_here = taken_by(task.verb).run && !matches!(task.verb, Verb::Runs) && !task.threads;
     match task.schedule {
         Schedule::Random => runs_here,
         Schedule::Rounds => task.seed.is_none(),

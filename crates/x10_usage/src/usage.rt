@@ -1,16 +1,15 @@
 //! What the words of a command line ask for.
 ghost use Rattle.std.specs.Prelude.{◌≡◌, ◌≢◌, IfOk, IfErr, IfSome, IsTrue, option_map};
-ghost use Rattle.clap.specs.Matches.{found_of};
 ghost use Rattle.clap.specs.Words.{kind_of};
-ghost use Rattle.x10_usage.specs.Tasks.{IsReadFrom, IsTask, IsWindowFound, color_named, explained_by, schedule_named, tells_activities, verb_named};
+ghost use Rattle.x10_usage.specs.Tasks.{IsReadFrom, IsTask, color_named, explained_by, schedule_named, tells_activities, verb_named};
 ghost use Rattle.x10_usage.specs.Tasks as tasks;
 ghost use Rattle.x10_usage.specs.Usages.{IsAnswer, text_of};
 
 use crate::checks::is_task;
 use crate::words::program;
 use clap::error::ErrorKind;
-use clap::{ArgMatches, Command, Error};
-use std::alloc::{AllocError, Global};
+use clap::{ArgMatches, Error};
+use std::alloc::Global;
 use x10_task::{Color, Schedule, Task, Verb, Window};
 
 /// What is printed instead of doing something: help that was asked for, or what is wrong with the words.
@@ -50,22 +49,15 @@ pub fn parse<'a>(alloc: Global, words: &'a [String], explain: bool) -> Result<Ta
     ensures task { IfOk result IsTask }
     ensures answer { IfErr result IsAnswer }
 {
-    match matched(alloc, without_help_of_help(words), explain) {
+    // An option that asks for the help of `help` is left out: that is the program's help.
+    let is_help_of_help = words.len() == 3
+        && words[1].as_str() == "help"
+        && matches!(words[2].as_str(), "--help" | "-h");
+    let words = if is_help_of_help { &words[..2] } else { words };
+    match matched(alloc, words, explain) {
         Ok(task) => Ok(task),
         Err(error) => Err(refusal(alloc, &error)),
     }
-}
-
-/// The words, but for an option that asks for the help of `help`: that is the program's.
-fn without_help_of_help(words: &[String]) -> &[String] {
-    if words.len() == 3 && words[1].as_str() == "help" && is_help(words[2].as_str()) {
-        return &words[..2];
-    }
-    words
-}
-
-fn is_help(word: &str) -> bool {
-    word == "--help" || word == "-h"
 }
 
 /// What to say where a word of the command line isn't UTF-8: no name of a file is taken that isn't, as the system's names
@@ -74,19 +66,19 @@ pub fn no_text(alloc: Global) -> Usage
     ensures answer { IsAnswer result }
     ensures refused { result.status ≢ 0 }
 {
-    match no_text_error(alloc) {
+    let Ok(mut command) = program(alloc) else {
+        return Usage {
+            text: None,
+            status: 2,
+        };
+    };
+    match command.error(ErrorKind::InvalidValue, "a word isn't UTF-8") {
         Ok(error) => refusal(alloc, &error),
         Err(_) => Usage {
             text: None,
             status: 2,
         },
     }
-}
-
-fn no_text_error(alloc: Global) -> Result<Error, AllocError>
-    ensures { IfOk result (λ e. kind_of e ≡ ErrorKind.InvalidValue) }
-{
-    program(alloc)?.error(ErrorKind::InvalidValue, "a word isn't UTF-8")
 }
 
 fn refusal(alloc: Global, error: &Error) -> Usage
@@ -107,22 +99,12 @@ fn refusal(alloc: Global, error: &Error) -> Usage
     }
 }
 
+/// The task that was asked for. What a command takes and the ranges of its numbers are looked at again here, so that they don't
+/// rest on how the command is put together.
 fn matched<'a>(alloc: Global, words: &'a [String], explain: bool) -> Result<Task<'a>, Error>
     ensures { IfOk result IsTask }
 {
     let mut command = program(alloc)?;
-    matched_by(&mut command, words, explain)
-}
-
-/// The task that was asked for. What a command takes and the ranges of its numbers are looked at again here, so that they don't
-/// rest on how the command is put together.
-fn matched_by<'a>(
-    command: &mut Command<'a>,
-    words: &'a [String],
-    explain: bool,
-) -> Result<Task<'a>, Error>
-    ensures { IfOk result IsTask }
-{
     let matches = command.try_get_matches_from_mut(words)?;
     let why = match task_in(&matches, explain) {
         Some(task) if is_task(&task) => return Ok(task),
@@ -170,7 +152,10 @@ fn task_in<'a>(matches: &ArgMatches<'a>, explain: bool) -> Option<Task<'a>>
         schedule: schedule_of(matches.get_str("schedule"), seed.is_some()),
         seed,
         seeds: matches.get_one("seeds").unwrap_or(SEEDS),
-        window: window_of(matches),
+        window: Window {
+            from: matches.get_one("from").unwrap_or(1),
+            to: matches.get_one("to"),
+        },
         threads: matches.get_flag("threads"),
         json: matches.get_flag("json"),
         stats: matches.get_flag("stats"),
@@ -178,16 +163,6 @@ fn task_in<'a>(matches: &ArgMatches<'a>, explain: bool) -> Option<Task<'a>>
         explain: is_explained(matches.get_str("explain"), explain),
         color: color_of(matches.get_str("color")),
     })
-}
-
-/// Which events are shown: where the words don't say so, all.
-fn window_of(matches: &ArgMatches) -> Window
-    ensures { IsWindowFound (found_of matches.now) result }
-{
-    Window {
-        from: matches.get_one("from").unwrap_or(1),
-        to: matches.get_one("to"),
-    }
 }
 
 /// Whether the file to write is a page, by the end of its name.

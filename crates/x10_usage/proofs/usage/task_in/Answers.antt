@@ -36,7 +36,16 @@ returns c = record {
       (one_text (found_of c.in_ok-name.matches.now) (codes "seeds")) c.get_one-3.result
       (λ bs r g. g.0) c.get_one-3.ensures.none c.get_one-3.ensures.value;
   seeds_is = c.unwrap_or-2.ensures;
-  window_is = c.window_of.ensures;
+  window_is = record {
+    asked = c.get_one-4.result;
+    is_asked = number_read 64 (λ bs r. ParsesUnsigned 64 10 bs r × ExplainsUnsignedError 10 bs r × HasUnsignedDigitsIfOk bs r)
+        (one_text (found_of c.in_ok-name.matches.now) (codes "from")) c.get_one-4.result
+        (λ bs r g. g.0) c.get_one-4.ensures.none c.get_one-4.ensures.value;
+    from_is = c.unwrap_or-3.ensures;
+    to_is = number_read 64 (λ bs r. ParsesUnsigned 64 10 bs r × ExplainsUnsignedError 10 bs r × HasUnsignedDigitsIfOk bs r)
+        (one_text (found_of c.in_ok-name.matches.now) (codes "to")) c.get_one-5.result
+        (λ bs r g. g.0) c.get_one-5.ensures.none c.get_one-5.ensures.value;
+  };
   threads_is = record { none = c.get_flag.ensures.none; yes = c.get_flag.ensures.value; no = c.get_flag.ensures.other };
   json_is = record { none = c.get_flag-2.ensures.none; yes = c.get_flag-2.ensures.value; no = c.get_flag-2.ensures.other };
   stats_is = record { none = c.get_flag-3.ensures.none; yes = c.get_flag-3.ensures.value; no = c.get_flag-3.ensures.other };
