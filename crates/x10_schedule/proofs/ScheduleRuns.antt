@@ -15,7 +15,7 @@ use Rattle.x10_world.specs.StandsForWorld.{WorldState, KeepsSetting}
 use Rattle.x10_schedule.specs.declared.schedule.Schedule.{Schedule}
 use Rattle.x10_schedule.specs.declared.schedule.Schedule.TheVariants as schedules
 use Rattle.x10_schedule.specs.Schedules.{Acts, ActsOrRests, ActsBy}
-use Rattle.x10_schedule.specs.Schedules.Acts.{not_yet, acts}
+use Rattle.x10_schedule.specs.Schedules.Acts.{acts}
 use Rattle.std.specs.Result.{IsErrAnd}
 use Rattle.std.specs.Prelude.{⊤, IfSome}
 use Rattle.std.proofs.lemmas.Option.{same_Some}

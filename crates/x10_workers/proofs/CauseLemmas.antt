@@ -1,6 +1,6 @@
 -- Why a worker stopped.
-use Rattle.std.proofs.Common.{◌≡◌, ◌⊎◌, ℕ, List, [], ◌∷◌, ◌++◌, Result, Ok, Err, Some, IfErr, refl, sym, ap, subst, ◌∙◌, inl, inr}
-use Rattle.std.specs.Prelude.{MatchResult, replicate, slice_get, take, true, ◌≢◌}
+use Rattle.std.proofs.Common.{◌≡◌, ℕ, List, [], ◌∷◌, Result, Ok, Err, IfErr, refl, sym, subst, inl, inr}
+use Rattle.std.specs.Prelude.{MatchResult, replicate, take, true, ◌≢◌}
 use Rattle.std.specs.Result.{IsErrAnd}
 use Rattle.x10_kinds.specs.declared.stop.Stop.{Stop}
 use Rattle.x10_kinds.specs.declared.stop.Stop.TheVariants as stop
@@ -16,11 +16,9 @@ use Rattle.x10_hall.specs.declared.port.PostFault.TheVariants as posting
 use Rattle.x10_workers.specs.declared.halt.Halt.{Halt}
 use Rattle.x10_workers.specs.declared.halt.Halt.TheVariants as halt
 use Rattle.x10_workers.specs.declared.halt.WorkFault.{WorkFault}
-use Rattle.x10_workers.specs.declared.halt.WorkFault.TheVariants as fault
 use Rattle.x10_workers.specs.declared.jobs.Failure.{Failure}
 use Rattle.x10_workers.specs.declared.jobs.Failure.TheVariants as failure
 use Rattle.x10_workers.specs.declared.trail.OwnTurn.{OwnTurn}
-use Rattle.x10_workers.specs.declared.trail.Kept.{Kept}
 use Rattle.x10_workers.specs.Halts.{halt_of_fault, halt_of_refusal}
 use Rattle.x10_workers.specs.Reports.{TellsFailure}
 use Rattle.x10_place.specs.Messages.{no_sent}
@@ -28,9 +26,9 @@ use Rattle.x10_place.specs.Stretches.{Strides}
 use Rattle.x10_place.specs.Sweeps.{Sweeps, unswept, swept, quietly, IsHaltedSweep}
 use Rattle.x10_workers.proofs.SweepTrails.{sweeps_to_each}
 use Rattle.x10_workers.proofs.WorkLemmas.{strides_each}
-use Rattle.x10_workers.specs.Trails.{frames_sent, TakesFrame, TakesEach, StepsEach, TrailLeads}
-use Rattle.x10_workers.specs.Workings.{AddsSteps, WorksOn}
-use Rattle.x10_workers.specs.Causes.{GoesTo, IsCauseOf, Halts, HaltsFrom, IsEndOf, IsFailureOf, IsCausedAt}
+use Rattle.x10_workers.specs.Trails.{frames_sent, TakesEach, StepsEach, TrailLeads}
+use Rattle.x10_workers.specs.Workings.{WorksOn}
+use Rattle.x10_workers.specs.Causes.{GoesTo, IsCauseOf, Halts, IsFailureOf, IsCausedAt}
 use Rattle.x10_workers.specs.Causes.GoesTo.{stays, takes, steps}
 
 -- ---- where a place goes

@@ -1,5 +1,5 @@
 -- Why a worker stopped: what its place answered to a step or to a frame, after some of its steps and frames.
-use Rattle.std.specs.Prelude.{◌≡◌, ◌⊎◌, ℕ, List, Result, MatchResult, IfErr, Ok, Err, length, slice_get, Some}
+use Rattle.std.specs.Prelude.{◌≡◌, ◌⊎◌, ℕ, List, Result, MatchResult, length, slice_get, Some}
 use Rattle.x10_kinds.specs.declared.limit.Limit.TheVariants as limits
 use Rattle.x10_kinds.specs.declared.stop.Stop.TheVariants as stop
 use Rattle.x10_copy.specs.declared.refusal.Refusal.{Refusal}

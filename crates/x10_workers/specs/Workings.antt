@@ -1,5 +1,5 @@
 -- What the workers of a run hand over, and what they do while they are at work.
-use Rattle.std.specs.Prelude.{◌≡◌, ◌≢◌, ◌↔◌, ℕ, ◌<◌, ◌≤◌, List, [], ◌∷◌, ◌++◌, Some, Result, IfOk, IsTrue, true, false, length, map, slice_get}
+use Rattle.std.specs.Prelude.{◌≡◌, ◌≢◌, ◌↔◌, ℕ, ◌<◌, ◌≤◌, List, [], ◌∷◌, ◌++◌, Some, IsTrue, true, false, length, map, slice_get}
 use Rattle.x10_verify.specs.Certified.{Certified}
 use Rattle.x10_place.specs.StandsFor.{PlaceState, store_of, line_as}
 use Rattle.x10_place.specs.Stays.{IsDoneHere}

@@ -80,11 +80,7 @@ fn first_failure(places: u16, ends: &[Result<Kept, Halt>]) -> Option<Failure>
 }
 
 /// What all workers kept, or why one of them has nothing.
-fn gathered(
-    alloc: Global,
-    places: u16,
-    ends: Vec<Result<Kept, Halt>>,
-) -> Result<Vec<Kept>, Failure>
+fn gathered(alloc: Global, places: u16, ends: Vec<Result<Kept, Halt>>) -> Result<Vec<Kept>, Failure>
     ensures kept { (c : Certified) (count : ℕ) → AreAllEnds c count ends.items
         → IfOk result (λ kept. AreAllKept c count kept.items) }
     ensures failure { (c : Certified) (count : ℕ) → AreAllEnds c count ends.items

@@ -1,5 +1,4 @@
-use Rattle.std.proofs.Common.{length, sym, ap, subst, ◌∙◌, inl, inr, refl}
-use Rattle.x10_workers.specs.declared.halt.Halt.TheVariants as halt
+use Rattle.std.proofs.Common.{sym, ap, subst, ◌∙◌, inl, inr, refl}
 use Rattle.x10_workers.specs.declared.halt.WorkFault.TheVariants as fault
 use Rattle.x10_workers.specs.declared.jobs.Failure.TheVariants as failure
 use Rattle.x10_workers.specs.Reports.{TellsFailure}

@@ -26,8 +26,13 @@ returns-clause-adds c =
       few = few_appended c.args.steps.now.keys (take swept.made c.deref.result.now) c.push_keys.new.keys c.saturating_sub-most.result
           (c.in_ok-push_keys.ensures ∙ ap (λ ks. c.args.steps.now.keys ++ take swept.made ks)
           (c.deref-2.ensures.value ∙ sym c.deref.ensures.value))
-          (omega (arith, length-take-le swept.made c.deref.result.now c.sweep-made.ensures.few, c.sweep-made.ensures.few,
-          ap length c.deref.ensures.value, c.in_ok-fill_round.ensures.few))
+          (omega (
+            arith,
+            length-take-le swept.made c.deref.result.now c.sweep-made.ensures.few,
+            c.sweep-made.ensures.few,
+            ap length c.deref.ensures.value,
+            c.in_ok-fill_round.ensures.few,
+          ))
           (omega (arith, c.requires.few, c.from.ensures, c.len.ensures, c.saturating_sub-most.ensures));
       still = λ e. (
         (none_or c.args.steps.now.moved swept.moved e).0,
