@@ -6,7 +6,7 @@ use Rattle.std.proofs.lemmas.Str.Pattern.{drop_at_char}
 use Rattle.std.specs.Char.{len_utf8}
 use Rattle.std.specs.Str.{IsUtf8}
 use Rattle.std.specs.Str.Pattern.{FindsChar}
-use Rattle.x10_asm.specs.Comments.{Tells, said}
+use Rattle.x10_asm.specs.Comments.{Tells}
 use Rattle.x10_asm.proofs.Commented.{after_silence, line_told}
 
 -- a line, after comments
@@ -30,8 +30,3 @@ pub line_more : (plain done rest line after : List ℕ) → plain ≡ done ++ re
     → plain ≡ (done ++ (line ++ 10 ∷ [])) ++ after
 line_more plain done rest line after p r = p ∙ ap (λ (x : List ℕ). done ++ x) r ∙ sym (append_assoc done (line ++ 10 ∷ []) after
     ∙ ap (λ (x : List ℕ). done ++ x) (append_assoc line (10 ∷ []) after))
-
--- the rest of it
-pub rest_told : (plain done rest out new : List ℕ) → plain ≡ done ++ rest → Tells [] out done → new ≡ out ++ rest → said new ≡ said plain
-rest_told plain done rest out new p t n =
-    ap said (n ∙ ap (λ (x : List ℕ). x ++ rest) t.1) ∙ t.2.text_says rest ∙ sym (ap said p ∙ t.2.plain_says rest)

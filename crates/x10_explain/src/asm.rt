@@ -13,7 +13,7 @@ use crate::quotes::tell_quotes;
 use crate::teller::{Name, Teller};
 use std::alloc::{AllocError, Global};
 use std::fmt::Write;
-use x10_asm::{AsmCause, AsmFault, Statement, classes_in, flaw_in, line_of, version_in};
+use x10_asm::{AsmCause, AsmFault, Statement, classes_in, flaw_in, line_of, next_line, version_in};
 
 /// Why a text spells no module, in at most 5 lines: the cause and the number of the line, with the line itself and marks
 /// beneath the word at fault; which case of the cause it is, and where it helps what such a line has to be. Linear in the text
@@ -153,7 +153,13 @@ fn tell_none(out: &mut Teller) {
 pub(crate) fn faulty_after(text: &str, first: usize) -> Option<Faulty<'_>> {
     let version = version_in(text);
     let mut known: Option<usize> = None;
-    for (index, line) in text.lines().enumerate().skip(first) {
+    let mut rest = text;
+    for index in 0..text.len() {
+        let (line, after) = next_line(rest)?;
+        rest = after;
+        if index < first {
+            continue;
+        }
         let said = line_of(line);
         if names_class(said) && known.is_none() {
             known = Some(classes_in(text));

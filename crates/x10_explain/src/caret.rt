@@ -1,6 +1,7 @@
 //! The word of a line that is at fault, and marks beneath it.
 
 use crate::flaws::names_function;
+use crate::quotes::past_spaces;
 use crate::teller::Teller;
 use crate::text::{MOST_SHOWN, number_in, word_at};
 use x10_asm::{AsmCause, Flaw, Line, Statement, next_word};
@@ -61,10 +62,7 @@ pub(crate) fn column_in(line: &str, mark: Option<Span>) -> usize {
 
 /// The column of the first word of a line.
 pub(crate) fn first_column(line: &str) -> usize {
-    let blanks = line
-        .len()
-        .saturating_sub(line.trim_start_matches(' ').len());
-    blanks.saturating_add(1)
+    past_spaces(line.as_bytes(), 0).saturating_add(1)
 }
 
 // A word of a line, with what follows it there.

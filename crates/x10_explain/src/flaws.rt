@@ -5,9 +5,9 @@ use crate::labels::is_name;
 use crate::nearest::{is_keyword, nearest_keyword, nearest_kind, nearest_operation};
 use crate::part::{Part, Sort, part_at, tell_expected};
 use crate::teller::{Name, Teller};
-use crate::text::{front, front_of, words_in};
+use crate::text::{MOST_SHOWN, front, words_in};
 use std::alloc::AllocError;
-use x10_asm::{AsmCause, Flaw, Line, Statement};
+use x10_asm::{AsmCause, Flaw, Line, Statement, next_word};
 use x10_code::op_named;
 
 /// The most bytes of a word that is compared with names.
@@ -50,8 +50,10 @@ pub(crate) fn names_function(said: Line, flaw: Flaw) -> bool {
     if said.statement != Statement::Func || flaw.word.is_empty() {
         return false;
     }
-    let words = said.rest.trim_start_matches(' ');
-    words.starts_with(|c: char| c.is_alphabetic() || c == '_')
+    match next_word(said.rest) {
+        Some((word, _)) => word.starts_with(|c: char| c.is_alphabetic() || c == '_'),
+        None => false,
+    }
 }
 
 // The mistake that a word shows, wherever it is in a line, if it shows one.
@@ -69,7 +71,7 @@ fn sign_of(word: &str) -> Option<&'static str> {
         return Some("Words are separated by spaces, without commas.\n");
     }
     // white space, in as much of the word as is shown
-    match front_of(word).chars().find(|c| c.is_whitespace())? {
+    match front(word, MOST_SHOWN).chars().find(|c| c.is_whitespace())? {
         '\t' => Some("Words are separated by spaces, not tabs.\n"),
         '\r' => Some("A line ends with a line feed, and not with a carriage return alone.\n"),
         _ => Some(

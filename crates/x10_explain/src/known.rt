@@ -8,7 +8,7 @@ use crate::site::Site;
 use crate::source::Source;
 use crate::teller::{Name, Teller};
 use std::alloc::{AllocError, Global};
-use x10_asm::{Statement, line_of};
+use x10_asm::{Statement, line_of, next_line};
 use x10_bounds::{Shape, Spot, classify};
 use x10_image::ImageView;
 use x10_kinds::{Kind, Term};
@@ -114,8 +114,15 @@ fn labels_of<'a>(
 ) -> Result<Vec<Label<'a>>, AllocError> {
     let mut labels = Vec::new(alloc);
     let mut pc: usize = 0;
-    let text = source.and_then(|text| text.from_function(f)).unwrap_or("");
-    for line in text.lines() {
+    let mut rest = match source {
+        Some(source) => source.from_function(f).unwrap_or(""),
+        None => "",
+    };
+    for _ in 0..rest.len() {
+        let Some((line, after)) = next_line(rest) else {
+            break;
+        };
+        rest = after;
         match line_of(line).statement {
             Statement::End => break,
             Statement::Instruction(_) => pc = pc.saturating_add(1),
@@ -150,9 +157,12 @@ pub(crate) fn term_of(
             return Some(Term::Place(place));
         }
     }
-    (0..register)
-        .map(Term::Reg)
-        .find(|other| are_same(flow, pc, this, *other))
+    for other in 0..register {
+        if are_same(flow, pc, this, Term::Reg(other)) {
+            return Some(Term::Reg(other));
+        }
+    }
+    None
 }
 
 // ---- how many steps are left

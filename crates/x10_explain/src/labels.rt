@@ -21,8 +21,8 @@ struct Scope {
     function: usize,
     /// How many lines of the text come before its own.
     from: usize,
-    /// How many lines it has, without its end.
-    count: usize,
+    /// How many lines come before its end.
+    end: usize,
 }
 
 // Tells why a word is no name of a label, and whether it is none.
@@ -138,7 +138,7 @@ fn begins_function(line: &str) -> Option<bool> {
 fn scope_of(text: &str, number: usize) -> Scope {
     let mut functions: usize = 0;
     let mut from: usize = 0;
-    let mut count: usize = 0;
+    let mut end: usize = 0;
     let mut rest = text;
     for index in 0..text.len() {
         let Some((line, after)) = next_line(rest) else {
@@ -153,12 +153,12 @@ fn scope_of(text: &str, number: usize) -> Scope {
             functions = functions.saturating_add(1);
             from = index;
         }
-        count = index.saturating_sub(from).saturating_add(1);
+        end = index.saturating_add(1);
     }
     Scope {
         function: functions.saturating_sub(1),
         from,
-        count,
+        end,
     }
 }
 
@@ -175,9 +175,11 @@ pub(crate) fn label_in(line: &str) -> Option<&str> {
 
 // The number of the line that defines the first label of a name.
 fn line_named(text: &str, scope: Scope, name: &str) -> Option<usize> {
-    let lines = text.lines().enumerate().skip(scope.from).take(scope.count);
-    for (index, line) in lines {
-        if label_in(line) == Some(name) {
+    let mut rest = text;
+    for index in 0..scope.end {
+        let (line, after) = next_line(rest)?;
+        rest = after;
+        if index >= scope.from && label_in(line) == Some(name) {
             return Some(index.saturating_add(1));
         }
     }
@@ -193,18 +195,27 @@ fn nearest_label<'a>(
 ) -> Option<(&'a str, usize)> {
     let mut best = None;
     let mut least = FAR;
-    let lines = text.lines().skip(scope.from).take(scope.count);
-    for label in lines.filter_map(label_in).take(MOST_COMPARED) {
-        let edits = edits(out, name, label);
-        if edits < least {
-            least = edits;
-            best = Some(label);
-        }
-        // none is nearer, since no label has the name itself
-        if least <= 1 {
+    let mut compared: usize = 0;
+    let mut rest = text;
+    for index in 0..scope.end {
+        // none is nearer than one edit, since no label has the name itself
+        if least <= 1 || compared >= MOST_COMPARED {
             break;
         }
+        let Some((line, after)) = next_line(rest) else {
+            break;
+        };
+        rest = after;
+        if index >= scope.from
+            && let Some(label) = label_in(line)
+        {
+            compared = compared.saturating_add(1);
+            let edits = edits(out, name, label);
+            if edits < least {
+                least = edits;
+                best = Some((label, index.saturating_add(1)));
+            }
+        }
     }
-    let best = best?;
-    Some((best, line_named(text, scope, best)?))
+    best
 }

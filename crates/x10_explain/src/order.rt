@@ -119,7 +119,12 @@ fn tell_late<'a>(
         return out.say("There is a line `places` already.\n", &[]);
     }
     let rank = rank_of(statement);
-    for (index, line) in text.lines().enumerate().take(number) {
+    let mut rest = text;
+    for index in 0..number {
+        let Some((line, after)) = next_line(rest) else {
+            return;
+        };
+        rest = after;
         let said = line_of(line);
         if rank_of(said.statement) > rank {
             return out.say(
@@ -297,7 +302,10 @@ pub(crate) fn tell_entry(out: &mut Teller, text: &str, number: usize, line: &str
 // The line with which a function begins, by the function's number, and the number of the line.
 fn func_at(text: &str, function: usize) -> Option<(usize, &str)> {
     let mut functions: usize = 0;
-    for (index, line) in text.lines().enumerate() {
+    let mut rest = text;
+    for index in 0..text.len() {
+        let (line, after) = next_line(rest)?;
+        rest = after;
         if line_of(line).statement == Statement::Func {
             if functions == function {
                 return Some((index.saturating_add(1), line));

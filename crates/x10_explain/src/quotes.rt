@@ -46,8 +46,8 @@ pub(crate) fn in_quotes(line: &str, from: usize) -> Option<(Misquoted, Option<Sp
     (next >= bytes.len()).then_some((Misquoted::Long, None))
 }
 
-// The first byte from `from` on that is not a space.
-fn past_spaces(bytes: &[u8], from: usize) -> usize {
+/// The first byte from `from` on that is not a space; how many there are, where there is none.
+pub(crate) fn past_spaces(bytes: &[u8], from: usize) -> usize {
     for at in from..bytes.len() {
         if bytes[at] != b' ' {
             return at;

@@ -1,6 +1,6 @@
 //! Sentences with places for names, and the text that they are told into.
 
-use crate::text::{front_of, said_of};
+use crate::text::{MOST_SAID, MOST_SHOWN, front};
 use std::alloc::{AllocError, Global};
 use std::fmt::Write;
 use x10_asm::{push_instruction, push_kind, push_quoted, push_result, push_slot};
@@ -101,7 +101,7 @@ fn push_want(out: &mut String, want: Want) -> Result<(), AllocError> {
 
 // A line, as much of it as is shown, with its end.
 fn push_shown(out: &mut String, line: &str) -> Result<(), AllocError> {
-    let front = front_of(line);
+    let front = front(line, MOST_SHOWN);
     let end = if front.len() < line.len() {
         " ..\n"
     } else {
@@ -111,7 +111,7 @@ fn push_shown(out: &mut String, line: &str) -> Result<(), AllocError> {
 }
 
 fn push_said(out: &mut String, word: &str) -> Result<(), AllocError> {
-    let front = said_of(word);
+    let front = front(word, MOST_SAID);
     let dots = if front.len() < word.len() { ".." } else { "" };
     write!(out, "`{front}{dots}`")
 }
@@ -174,15 +174,16 @@ fn push_value(out: &mut String, name: Name) -> Result<(), AllocError> {
 
 // A sentence with a name at each `{}`.
 fn fill(out: &mut String, sentence: &str, names: &[Name]) -> Result<(), AllocError> {
-    for (index, part) in sentence.split("{}").enumerate() {
-        if index > 0
-            && let Some(name) = names.get(index - 1)
-        {
-            push_name(out, *name)?;
-        }
-        out.push_str(part)?;
+    let mut rest = sentence;
+    for name in names {
+        let Some((before, after)) = rest.split_once("{}") else {
+            break;
+        };
+        out.push_str(before)?;
+        push_name(out, *name)?;
+        rest = after;
     }
-    Ok(())
+    out.push_str(rest)
 }
 
 /// A text that sentences are told into. Where memory runs out this is remembered, and `finish` says so.

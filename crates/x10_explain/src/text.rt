@@ -1,27 +1,17 @@
 //! Lines and words of a text, and as much of them as is shown.
 ghost use Rattle.std.specs.Prelude.{IfSome, IsUtf8};
 
-use x10_asm::{Statement, line_of, next_word, number_of};
+use x10_asm::{Statement, line_of, next_line, next_word, number_of};
 
 /// At most this many bytes of a line are shown: no screen is as wide.
 pub(crate) const MOST_SHOWN: usize = 1000;
 
 /// At most this many bytes of a word are repeated in a sentence.
-const MOST_SAID: usize = 64;
+pub(crate) const MOST_SAID: usize = 64;
 
 /// The front of a text, `most` bytes of it at most.
 pub(crate) fn front(text: &str, most: usize) -> &str {
     text.get(..text.floor_char_boundary(most)).unwrap_or(text)
-}
-
-/// The front of a line, as much as is shown.
-pub(crate) fn front_of(line: &str) -> &str {
-    front(line, MOST_SHOWN)
-}
-
-/// The front of a word, as much as is repeated.
-pub(crate) fn said_of(word: &str) -> &str {
-    front(word, MOST_SAID)
 }
 
 /// The word of a line with a number, from 0 on, and what follows it.
@@ -67,11 +57,16 @@ pub(crate) fn is_text(bytes: &[u8]) -> bool {
     if text.starts_with('\u{feff}') {
         return true;
     }
-    for line in text.lines() {
+    let mut rest = text;
+    for _ in 0..text.len() {
+        let Some((line, after)) = next_line(rest) else {
+            return false;
+        };
         let statement = line_of(line).statement;
         if statement != Statement::Silent {
             return statement != Statement::Unknown;
         }
+        rest = after;
     }
     false
 }
