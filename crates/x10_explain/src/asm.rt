@@ -1,20 +1,19 @@
 //! Why the assembler refuses a text.
-ghost use Rattle.std.specs.Prelude.{◌≡◌, ◌++◌, List, ℕ, IfOk, OnOk, IsUtf8};
+ghost use Rattle.std.specs.Prelude.{◌≡◌, ◌++◌, List, ℕ, IfOk, OnOk};
 ghost use Rattle.std.specs.String.{string_bytes};
 ghost use Rattle.x10_explain.specs.Heads.{asm_head, placed_asm_head};
 
-use crate::caret::{column_in, push_marks};
+use crate::caret::{column_in, tell_marks};
 use crate::faulty::{Faulty, faulty_at, names_class};
-use crate::flaws::push_flaw;
-use crate::labels::{push_definition, push_use};
-use crate::limits::{push_entry, push_limit};
+use crate::flaws::tell_flaw;
+use crate::labels::{tell_definition, tell_use};
 use crate::names::asm_name;
-use crate::order::{push_missing, push_order};
-use crate::quotes::push_quotes;
-use crate::text::push_shown;
+use crate::order::{tell_entry, tell_missing, tell_order, tell_outside};
+use crate::quotes::tell_quotes;
+use crate::teller::{Name, Teller};
 use std::alloc::{AllocError, Global};
 use std::fmt::Write;
-use x10_asm::{AsmCause, AsmFault, Statement, classes_in, flaw_in, line_of, version_in};
+use x10_asm::{AsmCause, AsmFault, Statement, classes_in, flaw_in, line_of, next_line, version_in};
 
 /// Why a text spells no module, in at most 5 lines: the cause and the number of the line, with the line itself and marks
 /// beneath the word at fault; which case of the cause it is, and where it helps what such a line has to be. Linear in the text
@@ -100,140 +99,79 @@ fn reasons(
     faulty: Option<&Faulty>,
     before: usize,
 ) -> Result<String, AllocError> {
-    let mut out = String::new(alloc);
-    let Some(faulty) = faulty else {
-        out.push_str("the text ends before it.\n")?;
-        if fault.cause == AsmCause::Order {
-            push_missing(&mut out, text)?;
+    let mut out = Teller::new(alloc);
+    match faulty {
+        Some(faulty) => {
+            out.say("{}", &[Name::Shown(faulty.line)]);
+            tell_marks(&mut out, before, faulty.line, faulty.mark);
+            tell_case(&mut out, text, faulty);
         }
-        return Ok(out);
-    };
-    push_line(alloc, &mut out, before, text, faulty)?;
-    Ok(out)
+        None => {
+            out.say("the text ends before it.\n", &[]);
+            if fault.cause == AsmCause::Order {
+                tell_missing(&mut out, text);
+            }
+        }
+    }
+    out.finish()
 }
 
-// A line of a text, to the right of `before` bytes that stand there already, with marks beneath the word at fault, and what
-// is wrong with it.
-fn push_line(
-    alloc: Global,
-    out: &mut String,
-    before: usize,
-    text: &str,
-    faulty: &Faulty,
-) -> Result<(), AllocError> {
-    push_shown(out, faulty.line)?;
-    push_marks(out, before, faulty.line, faulty.mark)?;
-    match faulty.flaw {
-        Some(flaw) if flaw.cause == faulty.fault.cause => push_flaw(alloc, out, faulty, flaw),
-        Some(_) => push_no_fault(out),
-        None => push_case(alloc, out, text, faulty),
+// What is wrong with a line, by itself or among the others of its text.
+fn tell_case(out: &mut Teller, text: &str, faulty: &Faulty) {
+    let (number, line, said) = (faulty.fault.line, faulty.line, faulty.said);
+    if let Some(flaw) = faulty.flaw {
+        if flaw.cause == faulty.fault.cause {
+            return tell_flaw(out, faulty, flaw);
+        }
+        return tell_none(out);
+    }
+    match (faulty.fault.cause, faulty.quotes) {
+        (AsmCause::Order, _) => tell_order(out, text, number, said.statement, said.first),
+        (AsmCause::Label, _) if said.statement == Statement::Label => {
+            tell_definition(out, text, number, said.first);
+        }
+        (AsmCause::Label, _) => match faulty.word().strip_prefix('@') {
+            Some(name) => tell_use(out, text, number, name),
+            None => tell_none(out),
+        },
+        (AsmCause::Text, Some(wrong)) => tell_quotes(out, line, wrong, faulty.word()),
+        (AsmCause::Limit, _) => tell_outside(out, text, number, line, said.statement),
+        (AsmCause::Entry, _) => tell_entry(out, text, number, line),
+        _ => tell_none(out),
     }
 }
 
 // That the fault isn't one of this text.
-fn push_no_fault(out: &mut String) -> Result<(), AllocError> {
-    out.push_str("Nothing of this sort is wrong there: the fault isn't this text's.\n")
+fn tell_none(out: &mut Teller) {
+    out.say(
+        "Nothing of this sort is wrong there: the fault isn't this text's.\n",
+        &[],
+    );
 }
 
-// What is wrong with a line among the others of its text.
-fn push_case(
-    alloc: Global,
-    out: &mut String,
-    text: &str,
-    faulty: &Faulty,
-) -> Result<(), AllocError> {
-    let (number, line, said) = (faulty.fault.line, faulty.line, faulty.said);
-    match faulty.fault.cause {
-        AsmCause::Order => push_order(out, text, number, said.statement, said.first),
-        AsmCause::Label => push_label(alloc, out, text, faulty),
-        AsmCause::Text => match faulty.quotes {
-            Some(wrong) => push_quotes(out, line, wrong, faulty.word()),
-            None => push_no_fault(out),
-        },
-        AsmCause::Limit => push_limit(out, text, number, line, said.statement),
-        AsmCause::Entry => push_entry(out, text, number, line),
-        AsmCause::Word | AsmCause::Number | AsmCause::Count | AsmCause::Memory => {
-            push_no_fault(out)
-        }
-    }
-}
-
-// What is wrong with the label that a line defines or jumps to.
-fn push_label(
-    alloc: Global,
-    out: &mut String,
-    text: &str,
-    faulty: &Faulty,
-) -> Result<(), AllocError> {
-    let (number, said) = (faulty.fault.line, faulty.said);
-    if said.statement == Statement::Label {
-        return push_definition(out, text, number, said.first);
-    }
-    match faulty.word().strip_prefix('@') {
-        Some(name) => push_use(alloc, out, text, number, name),
-        None => push_no_fault(out),
-    }
-}
-
-/// The greatest number of faulty lines that are explained after the first: each has 4 lines at most.
-const MOST_LINES: usize = 6;
-
-/// The lines after a faulty one that are faulty by themselves, each explained.
-pub(crate) fn push_others(
-    alloc: Global,
-    out: &mut String,
-    text: &str,
-    first: usize,
-) -> Result<(), AllocError> {
-    let others = others_in(alloc, text, first)?;
-    for (told, other) in others.iter().enumerate() {
-        if told >= MOST_LINES {
-            return out.push_str("and there are more faulty lines\n");
-        }
-        push_other(alloc, out, text, other)?;
-    }
-    Ok(())
-}
-
-/// The first lines after a faulty one that are faulty by themselves, with one more than are explained.
-pub(crate) fn others_in<'a>(
-    alloc: Global,
-    text: &'a str,
-    first: usize,
-) -> Result<Vec<Faulty<'a>>, AllocError> {
+/// The first line after line `first` of a text that is faulty by itself. One pass over the text, or two.
+pub(crate) fn faulty_after(text: &str, first: usize) -> Option<Faulty<'_>> {
     let version = version_in(text);
-    let mut others = Vec::new(alloc);
     let mut known: Option<usize> = None;
-    for (index, line) in text.lines().enumerate().skip(first) {
+    let mut rest = text;
+    for index in 0..text.len() {
+        let (line, after) = next_line(rest)?;
+        rest = after;
+        if index < first {
+            continue;
+        }
         let said = line_of(line);
         if names_class(said) && known.is_none() {
             known = Some(classes_in(text));
         }
         let classes = known.unwrap_or(0);
-        let Some(flaw) = flaw_in(said, classes, version) else {
-            continue;
-        };
-        let fault = AsmFault {
-            line: index.saturating_add(1),
-            cause: flaw.cause,
-        };
-        others.push(Faulty::new(fault, line, said, classes, Some(flaw)))?;
-        if others.len() > MOST_LINES {
-            break;
+        if let Some(flaw) = flaw_in(said, classes, version) {
+            let fault = AsmFault {
+                line: index.saturating_add(1),
+                cause: flaw.cause,
+            };
+            return Some(Faulty::new(fault, line, said, classes, Some(flaw)));
         }
     }
-    Ok(others)
-}
-
-// A faulty line, with its cause and its number.
-fn push_other(
-    alloc: Global,
-    out: &mut String,
-    text: &str,
-    other: &Faulty,
-) -> Result<(), AllocError> {
-    let before = out.len();
-    push_head(out, other.fault)?;
-    let wide = out.len().saturating_sub(before);
-    push_line(alloc, out, wide, text, other)
+    None
 }

@@ -3,22 +3,23 @@ ghost use Rattle.std.specs.Prelude.{◌≡◌, ◌↔◌, IfOk, IsTrue, List, �
 ghost use Rattle.x10_verify.specs.declared.fault.VerifyCause.TheVariants.{Memory};
 ghost use Rattle.x10_explain.specs.Verdicts.{IsVerifiedImage, IsVerifiedText, Reports, RefusesImage, RefusesText};
 
-use crate::asm::{explain_asm, others_in, push_others};
-use crate::faults::find;
-use crate::faulty::faulty_at;
+use crate::asm::{explained as explained_text, faulty_after};
+use crate::faults::{Finding, next_finding};
+use crate::faulty::{Faulty, faulty_at};
 use crate::head::head;
 use crate::image::explain_image;
-use crate::json::{CheckJson, FaultJson, json_line, of_asm, of_image, of_verify};
-use crate::source::{Source, push_source};
+use crate::json::{tell_asm, tell_image, tell_verify};
+use crate::site::Site;
+use crate::source::Source;
+use crate::teller::{Name, Teller, comma};
 use crate::verify::explained;
 use std::alloc::{AllocError, Global};
-use std::fmt::Write;
 use x10_asm::{AsmCause, AsmFault, assemble};
 use x10_image::{ImageFault, ImageView};
 use x10_verify::{Verified, VerifyCause, VerifyFault, verify};
 
 /// Why a check refuses a module: the fault that is reported by the first call that refuses it.
-#[derive(Clone, Copy, Debug, PartialEq, Eq)]
+#[derive(Clone, Copy)]
 pub enum CheckFault {
     Asm(AsmFault),
     Image(ImageFault),
@@ -26,7 +27,7 @@ pub enum CheckFault {
 }
 
 /// How a report is written.
-#[derive(Clone, Copy, Debug, PartialEq, Eq)]
+#[derive(Clone, Copy)]
 pub enum Form<'a> {
     /// Lines for people.
     Lines,
@@ -35,7 +36,7 @@ pub enum Form<'a> {
 }
 
 /// What is found of a module.
-#[derive(Debug, Drop)]
+#[derive(Drop)]
 pub struct Checked {
     /// Whether it is verified.
     pub verified: bool,
@@ -47,6 +48,9 @@ pub struct Checked {
 
 /// The greatest number of faults that are explained: each has 9 lines at most.
 const MOST_FAULTS: usize = 6;
+
+/// The greatest number of faulty lines that are explained after the first: each has 4 lines at most.
+const MOST_LINES: usize = 6;
 
 /// The greatest number of events that `--limit` permits a run: `MOST_EVENTS` of `x10_usage`, which this crate doesn't stand on.
 /// `tests/scripts/limits.sh` compares it with the one that the program takes.
@@ -89,6 +93,23 @@ pub fn check_text(alloc: Global, text: &str, form: Form) -> Result<Checked, Allo
     }
 }
 
+// What comes before the faults of a module that isn't verified.
+fn begin(out: &mut Teller, form: Form) {
+    if let Form::Json(file) = form {
+        out.say(
+            "{\"file\":{},\"verified\":false,\"bounds\":null,\"above_limit\":null,\"faults\":[",
+            &[Name::Json(file)],
+        );
+    }
+}
+
+// What comes after them.
+fn end(out: &mut Teller, form: Form) {
+    if let Form::Json(_) = form {
+        out.say("]}\n", &[]);
+    }
+}
+
 // The first faulty line of a text, and those after it that are faulty by themselves.
 fn faults_of_text(
     alloc: Global,
@@ -96,37 +117,43 @@ fn faults_of_text(
     fault: AsmFault,
     form: Form,
 ) -> Result<String, AllocError> {
-    let Form::Json(file) = form else {
-        let mut out = explain_asm(alloc, text, fault)?;
-        push_others(alloc, &mut out, text, fault.line)?;
-        return Ok(out);
-    };
-    let mut faults = Vec::new(alloc);
-    let first = faulty_at(text, fault);
-    faults.push(of_asm(alloc, file, text, fault, first.as_ref())?)?;
-    let others = others_in(alloc, text, fault.line)?;
-    for other in &others {
-        faults.push(of_asm(alloc, file, text, other.fault, Some(other))?)?;
+    let mut out = Teller::new(alloc);
+    begin(&mut out, form);
+    tell_text_fault(&mut out, form, text, fault, faulty_at(text, fault).as_ref());
+    let mut line = fault.line;
+    for told in 0..=MOST_LINES {
+        let Some(other) = faulty_after(text, line) else {
+            break;
+        };
+        line = other.fault.line;
+        match form {
+            Form::Lines if told == MOST_LINES => out.say("and there are more faulty lines\n", &[]),
+            Form::Lines => tell_text_fault(&mut out, form, text, other.fault, Some(&other)),
+            Form::Json(_) => {
+                out.say(",", &[]);
+                tell_text_fault(&mut out, form, text, other.fault, Some(&other));
+            }
+        }
     }
-    refused_json(alloc, file, faults)
+    end(&mut out, form);
+    out.finish()
 }
 
-// A module that isn't verified, as JSON.
-fn refused_json<'a>(
-    alloc: Global,
-    file: &'a str,
-    faults: Vec<FaultJson<'a>>,
-) -> Result<String, AllocError> {
-    json_line(
-        alloc,
-        &CheckJson {
-            file,
-            verified: false,
-            bounds: None,
-            above_limit: None,
-            faults,
-        },
-    )
+// A fault of a text, given the faulty line, if the text has it.
+fn tell_text_fault(
+    out: &mut Teller,
+    form: Form,
+    text: &str,
+    fault: AsmFault,
+    faulty: Option<&Faulty>,
+) {
+    match form {
+        Form::Lines => {
+            let told = explained_text(out.alloc(), text, fault, faulty);
+            out.take(told);
+        }
+        Form::Json(file) => tell_asm(out, file, text, fault, faulty),
+    }
 }
 
 // Why bytes are no image.
@@ -139,9 +166,11 @@ fn fault_of_image(
     let Form::Json(file) = form else {
         return explain_image(alloc, bytes, fault);
     };
-    let mut faults = Vec::new(alloc);
-    faults.push(of_image(alloc, file, bytes, fault)?)?;
-    refused_json(alloc, file, faults)
+    let mut out = Teller::new(alloc);
+    begin(&mut out, form);
+    tell_image(&mut out, file, bytes, fault);
+    end(&mut out, form);
+    out.finish()
 }
 
 fn check_bytes(
@@ -198,33 +227,33 @@ fn is_memory(cause: VerifyCause) -> bool
 
 // A line for each function: its number and its bound.
 fn bounds_of(alloc: Global, verified: &Verified, form: Form) -> Result<String, AllocError> {
-    if let Form::Json(file) = form {
-        return bounds_json(alloc, verified, file);
+    let mut out = Teller::new(alloc);
+    match form {
+        Form::Lines => {
+            for f in 0..verified.image().functions() {
+                out.say("{} {}\n", &[Name::Usize(f), Name::U64(verified.bound(f))]);
+            }
+        }
+        Form::Json(file) => {
+            out.say(
+                "{\"file\":{},\"verified\":true,\"bounds\":[",
+                &[Name::Json(file)],
+            );
+            tell_bounds(&mut out, verified);
+        }
     }
-    let mut out = String::new(alloc);
-    for f in 0..verified.image().functions() {
-        let bound = verified.bound(f);
-        writeln!(out, "{f} {bound}")?;
-    }
-    Ok(out)
+    out.finish()
 }
 
-fn bounds_json(alloc: Global, verified: &Verified, file: &str) -> Result<String, AllocError> {
-    let mut bounds = Vec::new(alloc);
+fn tell_bounds(out: &mut Teller, verified: &Verified) {
     for f in 0..verified.image().functions() {
-        bounds.push(verified.bound(f))?;
+        out.say("{}{}", &[comma(f), Name::U64(verified.bound(f))]);
     }
     let main = verified.bound(usize::from(verified.image().entry()));
-    json_line(
-        alloc,
-        &CheckJson {
-            file,
-            verified: true,
-            bounds: Some(bounds),
-            above_limit: Some(main > MOST_EVENTS),
-            faults: Vec::new(alloc),
-        },
-    )
+    out.say(
+        "],\"above_limit\":{},\"faults\":[]}\n",
+        &[Name::Bool(main > MOST_EVENTS)],
+    );
 }
 
 // The first fault of each function that has one.
@@ -237,71 +266,73 @@ fn faults_of(
     let Ok(image) = ImageView::read(alloc, bytes) else {
         return Err(AllocError);
     };
-    let source = source_of(alloc, source)?;
-    if let Form::Json(file) = form {
-        let faults = faults_json(alloc, &image, source.as_ref(), file)?;
-        return refused_json(alloc, file, faults);
+    let mut out = Teller::new(alloc);
+    begin(&mut out, form);
+    match source {
+        None => tell_faults(&mut out, &image, None, form),
+        Some(text) => match Source::read(alloc, text) {
+            Ok(source) => tell_faults(&mut out, &image, Some(&source), form),
+            Err(_) => out.fail(),
+        },
     }
-    let mut out = String::new(alloc);
-    push_faults(alloc, &mut out, &image, source.as_ref())?;
-    Ok(out)
+    end(&mut out, form);
+    out.finish()
 }
 
-fn faults_json<'a>(
-    alloc: Global,
-    image: &ImageView,
-    source: Option<&Source>,
-    file: &'a str,
-) -> Result<Vec<FaultJson<'a>>, AllocError> {
-    let mut bounds = Vec::new(alloc);
-    let mut faults = Vec::new(alloc);
-    for _ in 0..image.functions() {
-        let f = bounds.len();
-        if f >= image.functions() || faults.len() >= MOST_FAULTS {
-            break;
-        }
-        let finding = find(alloc, image, f, &bounds)?;
-        bounds.push(finding.bound)?;
-        if let Some(fault) = finding.fault {
-            faults.push(of_verify(alloc, file, image, source, &finding, fault)?)?;
-        }
-    }
-    Ok(faults)
-}
-
-// A text, if there is one, with where its functions are.
-fn source_of<'a>(alloc: Global, text: Option<&'a str>) -> Result<Option<Source<'a>>, AllocError> {
-    match text {
-        Some(text) => Ok(Some(Source::read(alloc, text)?)),
-        None => Ok(None),
-    }
-}
-
-fn push_faults(
-    alloc: Global,
-    out: &mut String,
-    image: &ImageView,
-    source: Option<&Source>,
-) -> Result<(), AllocError> {
-    let mut bounds = Vec::new(alloc);
+fn tell_faults<'a>(
+    out: &mut Teller,
+    image: &'a ImageView<'a>,
+    source: Option<&'a Source<'a>>,
+    form: Form,
+) {
+    let mut bounds = Vec::new(out.alloc());
     let mut told: usize = 0;
-    for _ in 0..image.functions() {
-        let f = bounds.len();
-        if f >= image.functions() {
-            return Ok(());
+    for f in 0..image.functions() {
+        match next_finding(out.alloc(), image, &mut bounds) {
+            Ok(Some(finding)) => {
+                if tell_finding(out, Site::new(image, source, f), form, told, &finding) {
+                    told = told.saturating_add(1);
+                }
+            }
+            Ok(None) => return,
+            Err(_) => return out.fail(),
         }
-        let finding = find(alloc, image, f, &bounds)?;
-        bounds.push(finding.bound)?;
-        let Some(fault) = finding.fault else {
-            continue;
-        };
-        if told >= MOST_FAULTS {
-            return out.push_str("and there are faults of more functions\n");
+        if told > MOST_FAULTS {
+            return;
         }
-        told = told.saturating_add(1);
-        out.push_str(&head(alloc, image, fault)?)?;
-        push_source(out, source, f, usize::from(fault.pc))?;
-        out.push_str(&explained(alloc, image, source, &finding.flow, fault)?)?;
     }
-    Ok(())
+}
+
+// The fault that is found of a function, behind so many others, and whether there is one.
+fn tell_finding(
+    out: &mut Teller,
+    site: Option<Site>,
+    form: Form,
+    told: usize,
+    finding: &Finding,
+) -> bool {
+    let (Some(site), Some(fault)) = (site, finding.fault) else {
+        return false;
+    };
+    match form {
+        Form::Lines if told >= MOST_FAULTS => {
+            out.say("and there are faults of more functions\n", &[]);
+        }
+        Form::Lines => {
+            let head = head(out.alloc(), site.image, fault);
+            out.take(head);
+            if let Some(source) = site.source
+                && let Some((number, line)) = source.line_of(site.f, usize::from(fault.pc))
+            {
+                out.say("{}", &[Name::Line(number, line)]);
+            }
+            explained(out, site, &finding.flow, fault);
+        }
+        Form::Json(file) if told < MOST_FAULTS => {
+            out.say("{}", &[comma(told)]);
+            tell_verify(out, file, site, &finding.flow, fault);
+        }
+        Form::Json(_) => {}
+    }
+    true
 }

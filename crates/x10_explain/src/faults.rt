@@ -1,4 +1,4 @@
-//! The first fault of a function by itself.
+//! What is found of a function by itself.
 ghost use Rattle.std.specs.Prelude.{◌≡◌, ◌<◌, length};
 
 use std::alloc::{AllocError, Global};
@@ -14,13 +14,8 @@ pub(crate) struct Finding {
     pub(crate) fault: Option<VerifyFault>,
 }
 
-/// Looks at a function by itself, given the bounds of those before it: its structure, and then what it names and its flow.
-pub(crate) fn find(
-    alloc: Global,
-    image: &ImageView,
-    f: usize,
-    earlier: &[u64],
-) -> Result<Finding, AllocError>
+// Looks at a function by itself, given the bounds of those before it: its structure, and then what it names and its flow.
+fn find(alloc: Global, image: &ImageView, f: usize, earlier: &[u64]) -> Result<Finding, AllocError>
     requires there { f < length image.now.functions }
     requires earlier { f ≡ length earlier.now }
 {
@@ -47,4 +42,19 @@ pub(crate) fn find(
             })
         }
     }
+}
+
+/// Looks at the function after those whose bounds are given, and adds its bound to them; nothing where there is none.
+pub(crate) fn next_finding(
+    alloc: Global,
+    image: &ImageView,
+    bounds: &mut Vec<u64>,
+) -> Result<Option<Finding>, AllocError> {
+    let f = bounds.len();
+    if f >= image.functions() {
+        return Ok(None);
+    }
+    let finding = find(alloc, image, f, bounds)?;
+    bounds.push(finding.bound)?;
+    Ok(Some(finding))
 }

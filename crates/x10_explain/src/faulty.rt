@@ -43,25 +43,6 @@ impl<'a> Faulty<'a> {
         }
     }
 
-    /// A line that is refused for its text in quotes and has no flaw.
-    fn misquoted(
-        fault: AsmFault,
-        line: &'a str,
-        said: Line<'a>,
-        wrong: Misquoted,
-        mark: Option<Span>,
-    ) -> Faulty<'a> {
-        Faulty {
-            fault,
-            line,
-            said,
-            classes: 0,
-            flaw: None,
-            quotes: Some(wrong),
-            mark,
-        }
-    }
-
     /// The word at which it is refused; the empty one where none is found.
     pub(crate) fn word(&self) -> &'a str {
         let line = self.line;
@@ -76,15 +57,30 @@ impl<'a> Faulty<'a> {
 pub(crate) fn faulty_at<'a>(text: &'a str, fault: AsmFault) -> Option<Faulty<'a>> {
     let line = line_at(text, fault.line)?;
     let said = line_of(line);
-    if let Some((wrong, mark)) = quoted(fault, line, said) {
-        return Some(Faulty::misquoted(fault, line, said, wrong, mark));
+    if fault.cause == AsmCause::Text
+        && said.statement == Statement::Text
+        && let Some((wrong, mark)) = in_quotes(line, line.len().saturating_sub(said.rest.len()))
+    {
+        return Some(Faulty {
+            fault,
+            line,
+            said,
+            classes: 0,
+            flaw: None,
+            quotes: Some(wrong),
+            mark,
+        });
     }
     let classes = if names_class(said) {
         classes_in(text)
     } else {
         0
     };
-    let flaw = flaw_in(said, classes, version_for(text, said));
+    let version = match said.statement {
+        Statement::Instruction(_) => version_in(text),
+        _ => ImageVersion::One,
+    };
+    let flaw = flaw_in(said, classes, version);
     Some(Faulty::new(fault, line, said, classes, flaw))
 }
 
@@ -102,20 +98,4 @@ fn line_at(text: &str, number: usize) -> Option<&str> {
 /// Whether a line may name a class.
 pub(crate) fn names_class(said: Line) -> bool {
     matches!(said.statement, Statement::Class | Statement::Func)
-}
-
-// The version of a text, if it matters to a line.
-fn version_for(text: &str, said: Line) -> ImageVersion {
-    match said.statement {
-        Statement::Instruction(_) => version_in(text),
-        _ => ImageVersion::One,
-    }
-}
-
-// What is wrong with the text in quotes of a line that is refused for it, and the bytes that show it.
-fn quoted(fault: AsmFault, line: &str, said: Line) -> Option<(Misquoted, Option<Span>)> {
-    if fault.cause != AsmCause::Text || said.statement != Statement::Text {
-        return None;
-    }
-    in_quotes(line, line.len().saturating_sub(said.rest.len()))
 }

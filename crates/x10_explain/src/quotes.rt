@@ -3,14 +3,12 @@
 ghost use Rattle.std.specs.Prelude.{◌<◌, length};
 
 use crate::caret::Span;
-use crate::text::push_said;
+use crate::teller::{Name, Teller};
 use memchr::memchr;
-use std::alloc::AllocError;
-use std::fmt::Write;
 use x10_model::limits::MOST_BYTES;
 
 /// What is wrong with a text in quotes.
-#[derive(Clone, Copy, Debug, PartialEq, Eq)]
+#[derive(Clone, Copy)]
 pub(crate) enum Misquoted {
     /// No quote is where it begins.
     Opening,
@@ -39,15 +37,17 @@ pub(crate) fn in_quotes(line: &str, from: usize) -> Option<(Misquoted, Option<Sp
         Ok(close) => close,
         Err((wrong, span)) => return Some((wrong, Some(span))),
     };
-    if let Some(span) = behind(bytes, close) {
-        return Some((Misquoted::Behind, Some(span)));
+    // what comes directly after a closing quote isn't part of a text
+    let behind = close.saturating_add(1);
+    let next = past_spaces(bytes, behind);
+    if behind < bytes.len() && next == behind {
+        return Some((Misquoted::Behind, Some(word_from(bytes, behind))));
     }
-    let is_alone = past_spaces(bytes, close.saturating_add(1)) >= bytes.len();
-    is_alone.then_some((Misquoted::Long, None))
+    (next >= bytes.len()).then_some((Misquoted::Long, None))
 }
 
-// The first byte from `from` on that is not a space.
-fn past_spaces(bytes: &[u8], from: usize) -> usize {
+/// The first byte from `from` on that is not a space; how many there are, where there is none.
+pub(crate) fn past_spaces(bytes: &[u8], from: usize) -> usize {
     for at in from..bytes.len() {
         if bytes[at] != b' ' {
             return at;
@@ -58,20 +58,11 @@ fn past_spaces(bytes: &[u8], from: usize) -> usize {
 
 // The bytes from `from` on up to a space.
 fn word_from(bytes: &[u8], from: usize) -> Span {
-    let end = match bytes.get(from..) {
-        Some(rest) => memchr(b' ', rest),
-        None => None,
-    };
-    let to = match end {
+    let to = match bytes.get(from..).and_then(|rest| memchr(b' ', rest)) {
         Some(at) => from.saturating_add(at),
         None => bytes.len(),
     };
     Span { from, to }
-}
-
-// Whether a backslash goes with a byte.
-fn is_escaped(byte: u8) -> bool {
-    matches!(byte, b'"' | b'\\' | b'n')
 }
 
 // Where the quote that opens at a byte is closed; else the escape that isn't known, or the open quote.
@@ -86,7 +77,7 @@ fn closing(bytes: &[u8], quote: usize) -> Result<usize, (Misquoted, Span)>
         }
         at += 1;
         if byte == b'\\' && at < bytes.len() {
-            if !is_escaped(bytes[at]) {
+            if !matches!(bytes[at], b'"' | b'\\' | b'n') {
                 let (from, to) = (at.saturating_sub(1), at + 1);
                 return Err((Misquoted::Escape, Span { from, to }));
             }
@@ -97,51 +88,37 @@ fn closing(bytes: &[u8], quote: usize) -> Result<usize, (Misquoted, Span)>
     Err((Misquoted::Closing, Span { from, to }))
 }
 
-// What comes directly after a closing quote, which isn't part of a text.
-fn behind(bytes: &[u8], close: usize) -> Option<Span> {
-    let from = close.saturating_add(1);
-    if from >= bytes.len() || bytes[from] == b' ' {
-        return None;
-    }
-    Some(word_from(bytes, from))
-}
-
-/// What is wrong with a line `text`, by what is wrong with its quotes.
-pub(crate) fn push_quotes(
-    out: &mut String,
-    line: &str,
-    wrong: Misquoted,
-    word: &str,
-) -> Result<(), AllocError> {
+/// Tells what is wrong with a line `text`, by what is wrong with its quotes.
+pub(crate) fn tell_quotes(out: &mut Teller, line: &str, wrong: Misquoted, word: &str) {
     match wrong {
-        Misquoted::Opening => push_opening(out, word),
-        Misquoted::Escape => out.push_str(
+        Misquoted::Opening => tell_opening(out, word),
+        Misquoted::Escape => out.say(
             "A backslash stands before a quote, a backslash or an n alone: \\\", \\\\ and \\n.\n",
+            &[],
         ),
-        Misquoted::Closing if line.ends_with("\\\"") => out.push_str(
+        Misquoted::Closing if line.ends_with("\\\"") => out.say(
             "The last quote belongs to the text, since a backslash is before it; no quote closes it.\n",
+            &[],
         ),
-        Misquoted::Closing => out.push_str("No second quote closes the text.\n"),
-        Misquoted::Behind => {
-            push_said(out, word)?;
-            out.push_str(
-                " comes right after the second quote, which ends the text; a quote inside it has a backslash before it.\n",
-            )
-        }
-        Misquoted::Long => writeln!(
-            out,
-            "A text has {MOST_BYTES} bytes at most; this one has more."
+        Misquoted::Closing => out.say("No second quote closes the text.\n", &[]),
+        Misquoted::Behind => out.say(
+            "{} comes right after the second quote, which ends the text; a quote inside it has a backslash before it.\n",
+            &[Name::Said(word)],
+        ),
+        Misquoted::Long => out.say(
+            "A text has {} bytes at most; this one has more.\n",
+            &[Name::U16(MOST_BYTES)],
         ),
     }
 }
 
 // A text that doesn't begin with a quote.
-fn push_opening(out: &mut String, word: &str) -> Result<(), AllocError> {
+fn tell_opening(out: &mut Teller, word: &str) {
     match word.chars().next() {
-        Some(c) if matches!(c, '“' | '”' | '„' | '«' | '»' | '‘' | '’' | '\'' | '`') => writeln!(
-            out,
-            "A text is between straight double quotes, \"; {c} is another character."
+        Some(c) if matches!(c, '“' | '”' | '„' | '«' | '»' | '‘' | '’' | '\'' | '`') => out.say(
+            "A text is between straight double quotes, \"; {} is another character.\n",
+            &[Name::Character(c)],
         ),
-        _ => out.push_str("A text is between quotes: text \"..\".\n"),
+        _ => out.say("A text is between quotes: text \"..\".\n", &[]),
     }
 }

@@ -1,13 +1,14 @@
-//! A function of a module, and the regions that are open in it.
+//! A function of a module.
+ghost use Rattle.std.specs.Prelude.{◌<◌, length};
 
 use crate::head::instr_in;
-use crate::phrase::push_instruction_at;
-use crate::region::Region;
 use crate::source::Source;
+use crate::teller::Name;
 use std::alloc::{AllocError, Global};
-use x10_bounds::{opener, surroundings};
-use x10_code::{Instr, Op};
-use x10_image::ImageView;
+use x10_bounds::{Spot, surroundings};
+use x10_code::Instr;
+use x10_image::{ClassView, ImageView, SigView};
+use x10_verify::{Flow, known_flow};
 
 /// A function of a module, and the text that the module was read from, where there is one.
 #[derive(Clone, Copy)]
@@ -15,72 +16,73 @@ pub(crate) struct Site<'a> {
     pub(crate) image: &'a ImageView<'a>,
     pub(crate) source: Option<&'a Source<'a>>,
     pub(crate) f: usize,
+    ghost there: { f < length image.now.functions },
 }
 
-impl Site<'_> {
-    /// An instruction of the function.
+impl<'a> Site<'a> {
+    /// Function `f`, if it is there.
+    pub(crate) fn new(
+        image: &'a ImageView<'a>,
+        source: Option<&'a Source<'a>>,
+        f: usize,
+    ) -> Option<Site<'a>> {
+        if f < image.functions() {
+            Some(Site { image, source, f })
+        } else {
+            None
+        }
+    }
+
+    pub(crate) fn signature(&self) -> SigView<'a> {
+        self.image.signature(self.f)
+    }
+
+    /// How many instructions it has.
+    pub(crate) fn len(&self) -> usize {
+        self.image.code_len(self.f)
+    }
+
     pub(crate) fn instr(&self, pc: usize) -> Option<Instr> {
         instr_in(self.image, self.f, pc)
     }
 
-    /// Whether an instruction is of an operation.
-    pub(crate) fn is_op(&self, pc: usize, op: Op) -> bool {
-        matches!(self.instr(pc), Some(instr) if instr.op == op)
+    /// What is known at each instruction.
+    pub(crate) fn flow(&self, alloc: Global) -> Result<Flow, AllocError> {
+        known_flow(alloc, self.image, self.f)
     }
 
-    /// Whether an instruction is the last one.
-    pub(crate) fn is_last(&self, pc: usize) -> bool {
-        self.instr(pc.saturating_add(1)).is_none()
+    /// What is around each instruction.
+    pub(crate) fn spots(&self, alloc: Global) -> Result<Vec<Spot>, AllocError> {
+        surroundings(alloc, self.image, self.f)
     }
 
-    /// The region that an instruction opens.
-    pub(crate) fn opened(&self, pc: usize) -> Option<Region> {
-        Region::opened_by(self.instr(pc)?.op)
-    }
-
-    /// An instruction, at the end of a line.
-    pub(crate) fn push(&self, out: &mut String, pc: usize) -> Result<(), AllocError> {
-        push_instruction_at(out, self.image, self.source, self.f, pc)
-    }
-
-    /// Words, and an instruction, at the end of a line.
-    pub(crate) fn push_with(
-        &self,
-        out: &mut String,
-        words: &str,
-        pc: usize,
-    ) -> Result<(), AllocError> {
-        out.push_str(words)?;
-        self.push(out, pc)
-    }
-}
-
-/// The openers of the regions that are open before an instruction, the innermost last. Linear in the function's instructions.
-pub(crate) fn open_at(alloc: Global, site: &Site, pc: usize) -> Result<Vec<usize>, AllocError> {
-    let mut open = Vec::new(alloc);
-    if site.f >= site.image.functions() {
-        return Ok(open);
-    }
-    let spots = surroundings(alloc, site.image, site.f)?;
-    let mut at = pc;
-    for _ in 0..pc {
-        let Some(outer) = spots.get(at).and_then(|spot| opener(*spot)) else {
-            break;
-        };
-        at = usize::from(outer);
-        open.push(at)?;
-    }
-    open.reverse();
-    Ok(open)
-}
-
-/// The innermost of some regions that is no loop: neither RET nor a jump leaves one.
-pub(crate) fn held_by(site: &Site, open: &[usize]) -> Option<(Region, usize)> {
-    for opener in open.iter().rev() {
-        match site.opened(*opener) {
-            None | Some(Region::Loop) => {}
-            Some(region) => return Some((region, *opener)),
+    /// The signature of the function that an instruction names, if it is there.
+    pub(crate) fn callee(&self, instr: Instr) -> Option<SigView<'a>> {
+        let f = instr.x as usize;
+        if f < self.image.functions() {
+            Some(self.image.signature(f))
+        } else {
+            None
         }
     }
-    None
+
+    /// The fields of a class, if it is there.
+    pub(crate) fn fields(&self, class: usize) -> Option<ClassView<'a>> {
+        if class < self.image.classes() {
+            Some(self.image.class(class))
+        } else {
+            None
+        }
+    }
+
+    /// An instruction, to the end of its line: where there is a text, its line there, and else as the listing writes it, with its
+    /// number.
+    pub(crate) fn at(&self, pc: usize) -> Name<'a> {
+        if let Some(source) = self.source
+            && let Some((number, line)) = source.line_of(self.f, pc)
+        {
+            return Name::Line(number, line.trim_start_matches(' '));
+        }
+        Name::Step(pc, self.instr(pc))
+    }
 }

@@ -1,9 +1,8 @@
 //! The text that a module was read from.
 ghost use Rattle.std.specs.Prelude.{IfSome, IsUtf8};
 
-use crate::text::{push_shown, word_at};
+use crate::text::word_at;
 use std::alloc::{AllocError, Global};
-use std::fmt::Write;
 use x10_asm::{Statement, line_of};
 
 /// Where a function begins in a text.
@@ -28,7 +27,7 @@ impl<'a> Source<'a> {
         let mut funcs = Vec::new(alloc);
         let mut bytes: usize = 0;
         for (lines, line) in text.split('\n').enumerate() {
-            if word_at(line, 0) == Some("func") {
+            if let Some(("func", _)) = word_at(line, 0) {
                 funcs.push(Func { lines, bytes })?;
             }
             bytes = bytes.saturating_add(line.len()).saturating_add(1);
@@ -60,24 +59,5 @@ impl<'a> Source<'a> {
             left -= 1;
         }
         None
-    }
-}
-
-/// The line of an instruction, where there is a text: `line 7: ADD 0 0 0`.
-pub(crate) fn push_source(
-    out: &mut String,
-    source: Option<&Source>,
-    f: usize,
-    pc: usize,
-) -> Result<(), AllocError> {
-    let Some(source) = source else {
-        return Ok(());
-    };
-    match source.line_of(f, pc) {
-        None => Ok(()),
-        Some((number, line)) => {
-            write!(out, "line {number}: ")?;
-            push_shown(out, line)
-        }
     }
 }

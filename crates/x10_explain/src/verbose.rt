@@ -1,57 +1,25 @@
 //! The listing that shows what the verifier knows.
-ghost use Rattle.std.specs.Prelude.{◌≡◌, ◌<◌, ◌++◌, ℤ, [], Some, Ok, IfOk, OnOk, length, slice_get};
-ghost use Rattle.std.specs.List.{flat_map};
+ghost use Rattle.std.specs.Prelude.{◌≡◌, ◌++◌, ◌∷◌, [], Ok, IfOk, OnOk};
 ghost use Rattle.std.specs.String.{string_bytes};
-ghost use Rattle.x10_model.specs.Modules.{Function};
-ghost use Rattle.x10_model.specs.Ranges.{function_at};
-ghost use Rattle.x10_image.specs.Parts.{code_at};
 ghost use Rattle.x10_asm.specs.Comments.{Tells, said};
-ghost use Rattle.x10_asm.specs.Listing.{listing, class_line, int_line, text_line, instruction_line, function_lines};
+ghost use Rattle.x10_asm.specs.Listing.{listing};
 ghost use Rattle.x10_asm.specs.Reading.{module_of};
 
 use crate::commented::push_commented;
-use crate::faults::{Finding, find};
-use crate::function_labels::FunctionLabels;
-use crate::head::{head, instr_in};
-use crate::known::push_state;
-use crate::lack::{callee, fields_of};
-use crate::left::steps_left;
+use crate::head::head;
+use crate::known::{Known, term_of};
+use crate::site::Site;
 use crate::source::Source;
+use crate::teller::{Name, Teller};
+use crate::text::front;
 use crate::verify::explained;
 use std::alloc::{AllocError, Global};
-use std::fmt::Write;
-use x10_asm::{
-    push_class, push_end, push_entry, push_func, push_instruction, push_int, push_int_line,
-    push_kind, push_places, push_quoted, push_result, push_slot, push_text_line, push_version,
-};
-use x10_bounds::{Spot, surroundings};
+use x10_asm::{Statement, line_of, list};
 use x10_code::{Instr, Operand, form};
 use x10_image::{ClassView, ImageView, SigView};
-use x10_verify::VerifyCause;
 
 /// How many bytes a comment shows of a text at most.
 const SHOWN: usize = 64;
-
-/// What is said of the instructions of a function: how many steps are left at most before each, and whether it is inside an
-/// atomic region, where the function's structure is right; and the labels.
-#[derive(Drop)]
-pub(crate) struct Notes<'a> {
-    left: Vec<u64>,
-    spots: Vec<Spot>,
-    labels: FunctionLabels<'a>,
-}
-
-impl Notes<'_> {
-    /// How many steps are left at most before an instruction.
-    pub(crate) fn left_at(&self, pc: usize) -> Option<u64> {
-        self.left.get(pc).copied()
-    }
-
-    /// Whether an instruction is inside an atomic region.
-    pub(crate) fn is_inside(&self, pc: usize) -> bool {
-        self.spots.get(pc).is_some_and(|spot| spot.atomics > 0)
-    }
-}
 
 /// The listing of an image for people: the canonical listing, with comments in lines of their own. They number classes,
 /// constants and functions, and say before each instruction its number, what the verifier knows there and how many steps are
@@ -59,7 +27,7 @@ impl Notes<'_> {
 /// instruction, and no states after it. Where the image was assembled from a text, `text`, its labels are named too, at the
 /// instructions that they stand before and where another one names such an instruction. Without the comments it is the listing,
 /// so it assembles to the same image. Linear in the image and the text, each function's flow aside; the memory is that of the
-/// listing and of one function's states.
+/// listing with and without comments, and of one function's states.
 pub fn list_verbose(
     alloc: Global,
     image: &ImageView,
@@ -69,329 +37,272 @@ pub fn list_verbose(
     ensures again { IfOk result (λ s. module_of (string_bytes s) ≡ Ok image.now) }
 {
     image.fits();
-    let source = match text {
-        Some(text) => Some(Source::read(alloc, text)?),
-        None => None,
-    };
-    let listing = whole(alloc, image, source.as_ref())?;
+    let plain = list(alloc, image)?;
+    let listing = commented(alloc, image, text, plain.as_str())?;
     Ok(listing)
 }
 
-/// The lines of the listing, with the comments between them.
-#[tactic(auto, unfolding(x10_asm::specs::Listing::listing))]
-fn whole(alloc: Global, image: &ImageView, source: Option<&Source>) -> Result<String, AllocError>
-    ensures { IfOk result (λ s. Tells [] (string_bytes s) (listing image.now)) }
+/// A listing, with comments.
+fn commented(
+    alloc: Global,
+    image: &ImageView,
+    text: Option<&str>,
+    plain: &str,
+) -> Result<String, AllocError>
+    ensures { IfOk result (λ s. said (string_bytes s) ≡ said plain.now) }
+{
+    let Some(text) = text else {
+        return whole(alloc, image, None, plain);
+    };
+    let source = Source::read(alloc, text)?;
+    let listing = whole(alloc, image, Some(&source), plain)?;
+    Ok(listing)
+}
+
+/// The lines of a listing, with comments between them.
+fn whole(
+    alloc: Global,
+    image: &ImageView,
+    source: Option<&Source>,
+    plain: &str,
+) -> Result<String, AllocError>
+    ensures { IfOk result (λ s. said (string_bytes s) ≡ said plain.now) }
 {
     let mut out = String::new(alloc);
-    push_version(&mut out, image.version())?;
-    push_places(&mut out, image.least())?;
-    push_classes(alloc, &mut out, image)?;
-    push_ints(alloc, &mut out, image)?;
-    push_texts(alloc, &mut out, image)?;
-    push_functions(alloc, &mut out, image, source)?;
-    push_numbered(
-        alloc,
-        &mut out,
-        "a run begins with function",
-        usize::from(image.entry()),
-    )?;
-    push_entry(&mut out, image.entry())?;
+    let mut walk = Walk::new(alloc, image, source);
+    let mut rest = plain;
+    while let Some((line, after)) = rest.split_once('\n') {
+        push_line(&mut out, &mut walk, line)?;
+        rest = after;
+    }
+    out.push_str(rest)?;
     Ok(out)
 }
 
-/// A comment of words and a number.
-fn push_numbered(
-    alloc: Global,
-    out: &mut String,
-    words: &str,
-    number: usize,
-) -> Result<(), AllocError>
-    ensures { OnOk result (Tells (string_bytes out.old) (string_bytes out.new) []) }
-{
-    let note = format!(in alloc; "{words} {number}")?;
-    push_commented(out, note.as_str())
-}
-
-fn push_classes(alloc: Global, out: &mut String, image: &ImageView) -> Result<(), AllocError>
+/// A line, with the comments before it.
+fn push_line(out: &mut String, walk: &mut Walk, line: &str) -> Result<(), AllocError>
     ensures { OnOk result (Tells (string_bytes out.old) (string_bytes out.new)
-        (flat_map class_line image.now.classes)) }
+        (line.now ++ 10 ∷ [])) }
 {
-    for c in 0..image.classes() {
-        push_numbered(alloc, out, "class", c)?;
-        push_class(out, &image.class(c))?;
-    }
-    Ok(())
-}
-
-fn push_ints(alloc: Global, out: &mut String, image: &ImageView) -> Result<(), AllocError>
-    ensures { OnOk result (Tells (string_bytes out.old) (string_bytes out.new)
-        (flat_map int_line image.now.ints)) }
-{
-    for i in 0..image.ints() {
-        push_numbered(alloc, out, "int", i)?;
-        push_int_at(out, image, i)?;
-    }
-    Ok(())
-}
-
-fn push_int_at(out: &mut String, image: &ImageView, i: usize) -> Result<(), AllocError>
-    requires { i < length image.now.ints }
-    ensures { OnOk result ((z : ℤ) × (slice_get image.now.ints i ≡ Some z)
-        × (string_bytes out.new ≡ string_bytes out.old ++ int_line z)) }
-{
-    push_int_line(out, image.int(i))
-}
-
-fn push_texts(alloc: Global, out: &mut String, image: &ImageView) -> Result<(), AllocError>
-    ensures { OnOk result (Tells (string_bytes out.old) (string_bytes out.new)
-        (flat_map text_line image.now.texts)) }
-{
-    for t in 0..image.texts() {
-        push_numbered(alloc, out, "text", t)?;
-        push_text_line(out, image.text(t))?;
-    }
-    Ok(())
-}
-
-fn push_functions(
-    alloc: Global,
-    out: &mut String,
-    image: &ImageView,
-    source: Option<&Source>,
-) -> Result<(), AllocError>
-    ensures { OnOk result (Tells (string_bytes out.old) (string_bytes out.new)
-        (flat_map function_lines image.now.functions)) }
-{
-    let mut bounds = Vec::new(alloc);
-    for f in 0..image.functions() {
-        let finding = find(alloc, image, f, &bounds)?;
-        let notes = notes_of(alloc, image, source, f, &bounds)?;
-        push_function(alloc, out, image, f, &notes, &finding)?;
-        bounds.push(finding.bound)?;
-    }
-    Ok(())
-}
-
-#[tactic(auto, unfolding(x10_asm::specs::Listing::function_lines))]
-fn push_function(
-    alloc: Global,
-    out: &mut String,
-    image: &ImageView,
-    f: usize,
-    notes: &Notes,
-    finding: &Finding,
-) -> Result<(), AllocError>
-    requires { f < length image.now.functions }
-    ensures { OnOk result ((g : Function) × (function_at image.now f ≡ Some g)
-        × Tells (string_bytes out.old) (string_bytes out.new) (function_lines g)) }
-{
-    push_heading(alloc, out, f, finding.bound)?;
-    push_func(out, &image.signature(f))?;
-    push_code(alloc, out, image, f, notes, finding)?;
-    push_end(out)?;
-    Ok(())
-}
-
-/// The comment before a function.
-fn push_heading(alloc: Global, out: &mut String, f: usize, bound: u64) -> Result<(), AllocError>
-    ensures { OnOk result (Tells (string_bytes out.old) (string_bytes out.new) []) }
-{
-    let mut note = format!(in alloc; "function {f}")?;
-    if bound != 0 {
-        let steps = steps_word(bound);
-        write!(note, ", at most {bound} {steps}")?;
-    }
-    push_commented(out, note.as_str())
-}
-
-fn push_code(
-    alloc: Global,
-    out: &mut String,
-    image: &ImageView,
-    f: usize,
-    notes: &Notes,
-    finding: &Finding,
-) -> Result<(), AllocError>
-    requires { f < length image.now.functions }
-    ensures { OnOk result (Tells (string_bytes out.old) (string_bytes out.new)
-        (flat_map instruction_line (code_at image.now f))) }
-{
-    for pc in 0..image.code_len(f) {
-        push_notes(alloc, out, image, f, pc, notes, finding)?;
-        push_instruction(out, image.instr(f, pc))?;
-    }
-    Ok(())
-}
-
-/// What is said of the instructions of a function, given the bounds of those before it.
-pub(crate) fn notes_of<'a>(
-    alloc: Global,
-    image: &ImageView,
-    source: Option<&Source<'a>>,
-    f: usize,
-    bounds: &[u64],
-) -> Result<Notes<'a>, AllocError>
-    requires { f < length image.now.functions }
-{
-    Ok(Notes {
-        left: steps_left(alloc, image, f, bounds)?,
-        spots: surroundings(alloc, image, f)?,
-        labels: FunctionLabels::read(alloc, source, f)?,
-    })
-}
-
-/// The comments before an instruction.
-fn push_notes(
-    alloc: Global,
-    out: &mut String,
-    image: &ImageView,
-    f: usize,
-    pc: usize,
-    notes: &Notes,
-    finding: &Finding,
-) -> Result<(), AllocError>
-    requires { f < length image.now.functions }
-    ensures { OnOk result (Tells (string_bytes out.old) (string_bytes out.new) []) }
-{
-    let note = note(alloc, image, f, pc, notes, finding)?;
+    let note = walk.note(line)?;
     push_commented(out, note.as_str())?;
-    let Some(fault) = finding.fault else {
-        return Ok(());
-    };
-    if usize::from(fault.pc) != pc {
-        return Ok(());
-    }
-    let head = head(alloc, image, fault)?;
-    push_commented(out, head.as_str())?;
-    let reasons = explained(alloc, image, None, &finding.flow, fault)?;
-    push_commented(out, reasons.as_str())?;
+    push_plain(out, line)?;
     Ok(())
 }
 
-/// What is known before an instruction, in one line.
-fn note(
-    alloc: Global,
-    image: &ImageView,
-    f: usize,
-    pc: usize,
-    notes: &Notes,
-    finding: &Finding,
-) -> Result<String, AllocError>
-    requires { f < length image.now.functions }
+fn push_plain(out: &mut String, line: &str) -> Result<(), AllocError>
+    ensures { OnOk result (string_bytes out.new ≡ string_bytes out.old ++ (line.now ++ 10 ∷ [])) }
 {
-    let flow = &finding.flow;
-    let mut note = format!(in alloc; "{pc}")?;
-    notes.labels.push_before(&mut note, pc)?;
-    note.push_str(":")?;
-    if !is_past(finding, pc) {
-        if flow.is_reached(pc) {
-            push_state(&mut note, image, flow, pc, image.signature(f).registers())?;
-        } else {
-            note.push_str(" no way leads here")?;
-        }
-        if finding.bound != 0 {
-            push_ahead(&mut note, notes, pc)?;
-        }
-    }
-    if let Some(instr) = instr_in(image, f, pc) {
-        push_named(&mut note, image, notes, instr)?;
-    }
-    Ok(note)
-}
-
-// How many steps are left, and whether the instruction is inside an atomic region.
-fn push_ahead(note: &mut String, notes: &Notes, pc: usize) -> Result<(), AllocError> {
-    if let Some(count) = notes.left_at(pc) {
-        let steps = steps_word(count);
-        write!(note, "; at most {count} {steps} left")?;
-    }
-    if notes.is_inside(pc) {
-        note.push_str("; inside an atomic region")?;
-    }
+    out.push_str(line)?;
+    out.push_str("\n")?;
     Ok(())
 }
 
-/// Whether an instruction is where no states are shown: after a fault of the flow, or anywhere where what is named isn't there,
-// since the flow wasn't looked at then.
-pub(crate) fn is_past(finding: &Finding, pc: usize) -> bool {
-    match finding.flow.fault() {
-        None => false,
-        Some(fault) => fault.cause == VerifyCause::Index || pc > usize::from(fault.pc),
+/// How far a walk over the lines of a listing has come: how many lines there were of each sort, and what is known of the function
+/// that is open.
+#[derive(Drop)]
+struct Walk<'a> {
+    alloc: Global,
+    image: &'a ImageView<'a>,
+    source: Option<&'a Source<'a>>,
+    classes: usize,
+    ints: usize,
+    texts: usize,
+    pc: usize,
+    bounds: Vec<u64>,
+    known: Option<Known<'a>>,
+}
+
+impl<'a> Walk<'a> {
+    fn new(alloc: Global, image: &'a ImageView<'a>, source: Option<&'a Source<'a>>) -> Walk<'a> {
+        Walk {
+            alloc,
+            image,
+            source,
+            classes: 0,
+            ints: 0,
+            texts: 0,
+            pc: 0,
+            bounds: Vec::new(alloc),
+            known: None,
+        }
+    }
+
+    /// What is said before a line.
+    fn note(&mut self, line: &str) -> Result<String, AllocError> {
+        let mut out = Teller::new(self.alloc);
+        match line_of(line).statement {
+            Statement::Class => {
+                out.say("class {}", &[Name::Usize(self.classes)]);
+                self.classes = self.classes.saturating_add(1);
+            }
+            Statement::Int => {
+                out.say("int {}", &[Name::Usize(self.ints)]);
+                self.ints = self.ints.saturating_add(1);
+            }
+            Statement::Text => {
+                out.say("text {}", &[Name::Usize(self.texts)]);
+                self.texts = self.texts.saturating_add(1);
+            }
+            Statement::Func => self.begin(&mut out),
+            Statement::Instruction(_) => {
+                self.tell(&mut out);
+                self.pc = self.pc.saturating_add(1);
+            }
+            Statement::Entry => out.say(
+                "a run begins with function {}",
+                &[Name::U16(self.image.entry())],
+            ),
+            _ => {}
+        }
+        out.finish()
+    }
+
+    // The function that begins.
+    fn begin(&mut self, out: &mut Teller) {
+        let f = self.bounds.len();
+        self.pc = 0;
+        match Known::read(self.alloc, self.image, self.source, &mut self.bounds) {
+            Ok(known) => self.known = known,
+            Err(_) => return out.fail(),
+        }
+        out.say("function {}", &[Name::Usize(f)]);
+        if let Some(known) = &self.known
+            && known.finding.bound != 0
+        {
+            let bound = known.finding.bound;
+            out.say(", at most {} {}", &[Name::U64(bound), steps_word(bound)]);
+        }
+    }
+
+    // The instruction that comes: its number and its labels, what is known before it, and what it names.
+    fn tell(&self, out: &mut Teller) {
+        let Some(known) = &self.known else {
+            return;
+        };
+        let Some(site) = Site::new(self.image, None, self.bounds.len().saturating_sub(1)) else {
+            return;
+        };
+        let pc = self.pc;
+        out.say("{}", &[Name::Usize(pc)]);
+        known.tell_labels(out, pc);
+        out.say(":", &[]);
+        if !known.is_past(pc) {
+            tell_state(out, &site, known, pc);
+        }
+        if let Some(instr) = site.instr(pc) {
+            tell_named(out, &site, known, instr);
+        }
+        if let Some(fault) = known.finding.fault
+            && usize::from(fault.pc) == pc
+        {
+            out.say("\n", &[]);
+            let head = head(self.alloc, self.image, fault);
+            out.take(head);
+            explained(out, site, &known.finding.flow, fault);
+        }
     }
 }
 
 // The word for so many steps.
-fn steps_word(count: u64) -> &'static str {
-    if count == 1 { "step" } else { "steps" }
+fn steps_word(count: u64) -> Name<'static> {
+    Name::Word(if count == 1 { "step" } else { "steps" })
 }
 
-fn push_kinds(out: &mut String, fields: &ClassView) -> Result<(), AllocError> {
-    for n in 0..fields.len() {
-        push_kind(out, fields.field(n))?;
+// The kinds of the registers that are set, each with a place that it is known to be at: `r0 int, r1 gref:0 at here`; how many
+// steps are left, and whether the instruction is inside an atomic region.
+fn tell_state(out: &mut Teller, site: &Site, known: &Known, pc: usize) {
+    if known.finding.flow.is_reached(pc) {
+        tell_registers(out, site, known, pc);
+    } else {
+        out.say(" no way leads here", &[]);
     }
-    Ok(())
+    if let Some(count) = known.left_at(pc) {
+        out.say(
+            "; at most {} {} left",
+            &[Name::U64(count), steps_word(count)],
+        );
+        if known.is_inside(pc) {
+            out.say("; inside an atomic region", &[]);
+        }
+    }
 }
 
-fn push_slots(out: &mut String, signature: &SigView) -> Result<(), AllocError> {
-    for n in 0..signature.parameters() {
-        push_slot(out, signature.parameter(n))?;
+fn tell_registers(out: &mut Teller, site: &Site, known: &Known, pc: usize) {
+    let mut before = " ";
+    for register in 0..site.signature().registers() {
+        if let Some(kind) = known.finding.flow.kind(pc, register) {
+            out.say(
+                "{}{}{}",
+                &[
+                    Name::Word(before),
+                    Name::Register(register),
+                    Name::Kind(kind),
+                ],
+            );
+            before = ", ";
+            if let Some(place) = term_of(known, site.image, pc, register, kind) {
+                out.say(" at {}", &[Name::Place(place)]);
+            }
+        }
     }
-    Ok(())
-}
-
-// A text in quotes; of a long one the beginning, and how many bytes it has.
-fn push_beginning(out: &mut String, text: &str) -> Result<(), AllocError> {
-    let shown = text.get(..text.floor_char_boundary(SHOWN)).unwrap_or("");
-    push_quoted(out, shown)?;
-    if shown.len() < text.len() {
-        let bytes = text.len();
-        write!(out, " and so on, {bytes} bytes")?;
+    if before == " " {
+        out.say(" no register is set", &[]);
     }
-    Ok(())
-}
-
-// What a function takes and gives.
-fn push_takes(out: &mut String, signature: &SigView) -> Result<(), AllocError> {
-    if signature.parameters() == 0 {
-        out.push_str(" nothing")?;
-    }
-    push_slots(out, signature)?;
-    out.push_str(" and gives")?;
-    push_result(out, signature.result())
 }
 
 // What x names: a constant, a class, a function, or an instruction that has a label.
-fn push_named(
-    out: &mut String,
-    image: &ImageView,
-    notes: &Notes,
-    instr: Instr,
-) -> Result<(), AllocError> {
+fn tell_named(out: &mut Teller, site: &Site, known: &Known, instr: Instr) {
     let x = instr.x as usize;
+    let image = site.image;
     match form(instr.op).x {
-        Operand::Int if x < image.ints() => {
-            write!(out, "; int {x} is")?;
-            push_int(out, image.int(x))
-        }
-        Operand::Text if x < image.texts() => {
-            write!(out, "; text {x} is")?;
-            push_beginning(out, image.text(x))
-        }
-        Operand::Class => match fields_of(image, x) {
-            None => Ok(()),
-            Some(fields) => {
-                write!(out, "; class {x} is")?;
-                push_kinds(out, &fields)
+        Operand::Int if x < image.ints() => out.say(
+            "; int {} is {}",
+            &[Name::Usize(x), Name::I64(image.int(x))],
+        ),
+        Operand::Text if x < image.texts() => tell_text(out, x, image.text(x)),
+        Operand::Class => {
+            if let Some(fields) = site.fields(x) {
+                out.say("; class {} is", &[Name::Usize(x)]);
+                tell_kinds(out, &fields);
             }
-        },
-        Operand::Function => match callee(image, instr) {
-            None => Ok(()),
-            Some(signature) => {
-                write!(out, "; function {x} takes")?;
-                push_takes(out, &signature)
+        }
+        Operand::Function => {
+            if let Some(signature) = site.callee(instr) {
+                out.say("; function {} takes", &[Name::Usize(x)]);
+                tell_signature(out, &signature);
             }
-        },
-        Operand::Target => notes.labels.push_target(out, x),
-        _ => Ok(()),
+        }
+        Operand::Target => known.tell_target(out, x),
+        _ => {}
     }
+}
+
+// A text in quotes; of a long one the beginning, and how many bytes it has.
+fn tell_text(out: &mut Teller, number: usize, text: &str) {
+    let shown = front(text, SHOWN);
+    out.say(
+        "; text {} is{}",
+        &[Name::Usize(number), Name::Quoted(shown)],
+    );
+    if shown.len() < text.len() {
+        out.say(" and so on, {} bytes", &[Name::Usize(text.len())]);
+    }
+}
+
+fn tell_kinds(out: &mut Teller, fields: &ClassView) {
+    for n in 0..fields.len() {
+        out.say("{}", &[Name::Kind(fields.field(n))]);
+    }
+}
+
+// What a function takes and gives.
+fn tell_signature(out: &mut Teller, signature: &SigView) {
+    if signature.parameters() == 0 {
+        out.say(" nothing", &[]);
+    }
+    for n in 0..signature.parameters() {
+        out.say("{}", &[Name::Slot(signature.parameter(n))]);
+    }
+    out.say(" and gives{}", &[Name::Gives(signature.result())]);
 }

@@ -4,21 +4,20 @@ ghost use Rattle.std.specs.String.{string_bytes};
 ghost use Rattle.x10_explain.specs.Heads.{head_line, placed};
 
 use crate::caret::first_column;
-use crate::head::{head, instr_in, push_place};
-use crate::index::push_index;
-use crate::lack::{Inquiry, Lack, Role, callee, fields_of, first_lack};
-use crate::origin::push_origin;
-use crate::phrase::{push_known, push_term};
-use crate::regions::push_structure;
-use crate::repair::push_repair;
+use crate::head::{head, push_place};
+use crate::index::tell_index;
+use crate::lack::{Inquiry, Lack, Role, lack_of_fault};
+use crate::origin::tell_origin;
+use crate::regions::tell_structure;
+use crate::repair::tell_repair;
+use crate::site::Site;
 use crate::source::Source;
-use crate::want::push_want;
+use crate::teller::{Name, Teller};
 use std::alloc::{AllocError, Global};
-use std::fmt::Write;
-use x10_asm::push_slot;
-use x10_code::{Instr, name};
+use x10_code::name;
 use x10_image::ImageView;
-use x10_verify::{Flow, VerifyCause, VerifyFault, known_flow};
+use x10_kinds::Kind;
+use x10_verify::{Flow, VerifyCause, VerifyFault};
 
 /// Why the verifier refuses a module, in at most 10 lines: the rule, the function and the instruction, as the listing writes
 /// it; what the rule asks, of which register or operand; what the verifier knows there, and where that comes from. A fault that
@@ -76,18 +75,23 @@ fn reasons(
     source: Option<&Source>,
     fault: VerifyFault,
 ) -> Result<String, AllocError> {
-    let f = usize::from(fault.function);
-    if f >= image.functions() {
-        return Ok(String::new(alloc));
+    let mut out = Teller::new(alloc);
+    if let Some(site) = Site::new(image, source, usize::from(fault.function)) {
+        if is_of_flow(fault.cause) {
+            match site.flow(alloc) {
+                Ok(flow) => {
+                    tell_flow(&mut out, site, &flow, fault);
+                }
+                Err(_) => out.fail(),
+            }
+        } else {
+            tell_rule(&mut out, site, fault);
+        }
     }
-    if !is_of_flow(fault.cause) {
-        return without_flow(alloc, image, source, fault);
-    }
-    let flow = known_flow(alloc, image, f)?;
-    explained(alloc, image, source, &flow, fault)
+    out.finish()
 }
 
-/// Whether a fault is one of what is known in a function, for which the states are wanted.
+// Whether a fault is one of what is known in a function, for which the states are wanted.
 fn is_of_flow(cause: VerifyCause) -> bool {
     matches!(
         cause,
@@ -95,192 +99,176 @@ fn is_of_flow(cause: VerifyCause) -> bool {
     )
 }
 
-/// What comes below the first line of a fault that isn't of what is known.
-fn without_flow(
-    alloc: Global,
-    image: &ImageView,
-    source: Option<&Source>,
-    fault: VerifyFault,
-) -> Result<String, AllocError> {
-    let mut out = String::new(alloc);
-    let (f, pc) = (usize::from(fault.function), usize::from(fault.pc));
-    let Some(instr) = instr_in(image, f, pc) else {
-        return Ok(out);
+/// Where the sentences on a fault of what is known in a function stand in its explanation: what is asked, what is known of that,
+/// where it comes from, and how it is usually put right. Each may be empty.
+#[derive(Clone, Copy)]
+pub(crate) struct Parts {
+    pub(crate) asked: (usize, usize),
+    pub(crate) known: (usize, usize),
+    pub(crate) origin: (usize, usize),
+    pub(crate) repair: (usize, usize),
+}
+
+/// Tells what comes below the first line, by what is known of the function.
+pub(crate) fn explained(out: &mut Teller, site: Site, flow: &Flow, fault: VerifyFault) -> Parts {
+    if is_of_flow(fault.cause) {
+        return tell_flow(out, site, flow, fault);
+    }
+    tell_rule(out, site, fault);
+    NO_PARTS
+}
+
+/// An explanation that says none of this.
+pub(crate) const NO_PARTS: Parts = Parts {
+    asked: (0, 0),
+    known: (0, 0),
+    origin: (0, 0),
+    repair: (0, 0),
+};
+
+// What a rule says that isn't of what is known.
+fn tell_rule(out: &mut Teller, site: Site, fault: VerifyFault) {
+    let pc = usize::from(fault.pc);
+    let Some(instr) = site.instr(pc) else {
+        return;
     };
     match fault.cause {
-        VerifyCause::Structure(cause) => {
-            push_structure(alloc, &mut out, image, source, cause, f, pc)?
-        }
-        VerifyCause::Index => push_index(&mut out, image, f, instr)?,
-        VerifyCause::Memory => out.push_str("There was no memory to look at the module.\n")?,
+        VerifyCause::Structure(cause) => tell_structure(out, site, cause, pc, instr),
+        VerifyCause::Index => tell_index(out, &site, instr),
+        VerifyCause::Memory => out.say("There was no memory to look at the module.\n", &[]),
         VerifyCause::Unset | VerifyCause::Kind | VerifyCause::Home | VerifyCause::Result => {}
     }
-    Ok(out)
 }
 
-/// What comes below the first line, by what is known of the function; and by the text that the module was read from, where there
-/// is one.
-pub(crate) fn explained(
-    alloc: Global,
-    image: &ImageView,
-    source: Option<&Source>,
-    flow: &Flow,
-    fault: VerifyFault,
-) -> Result<String, AllocError> {
-    if !is_of_flow(fault.cause) {
-        return without_flow(alloc, image, source, fault);
-    }
-    let mut out = String::new(alloc);
-    let (f, pc) = (usize::from(fault.function), usize::from(fault.pc));
-    if let Some(instr) = instr_in(image, f, pc) {
-        push_flow_fault(alloc, &mut out, image, source, flow, fault, instr)?;
-    }
-    Ok(out)
-}
-
-/// Lines on a fault of the flow, by what is known of its function.
-pub(crate) fn push_flow_fault(
-    alloc: Global,
-    out: &mut String,
-    image: &ImageView,
-    source: Option<&Source>,
-    flow: &Flow,
-    fault: VerifyFault,
-    instr: Instr,
-) -> Result<(), AllocError> {
-    let (f, pc) = (usize::from(fault.function), usize::from(fault.pc));
-    if f >= image.functions() {
-        return Ok(());
-    }
-    let result = image.signature(f).result();
+// What is asked, what is known of it, where that comes from, and how it is put right.
+fn tell_flow(out: &mut Teller, site: Site, flow: &Flow, fault: VerifyFault) -> Parts {
+    let pc = usize::from(fault.pc);
+    let Some(instr) = site.instr(pc) else {
+        return NO_PARTS;
+    };
     let inquiry = Inquiry {
-        image,
-        source,
+        site,
         flow,
-        result,
-        f,
         pc,
         instr,
     };
-    let Some(lack) = lack_of_fault(&inquiry, fault) else {
-        return out.push_str("What is known there meets the rule: the fault isn't this module's.\n");
+    let Some(lack) = lack_of_fault(&inquiry, fault.cause) else {
+        out.say(
+            "What is known there meets the rule: the fault isn't this module's.\n",
+            &[],
+        );
+        return NO_PARTS;
     };
-    push_lack(out, &inquiry, lack)?;
-    let meets = push_origin(alloc, out, &inquiry, lack)?;
-    push_repair(out, &inquiry, lack, meets)
-}
-
-/// What is missing where a fault of the flow is; nothing where the fault isn't this module's.
-pub(crate) fn lack_of_fault(inquiry: &Inquiry, fault: VerifyFault) -> Option<Lack> {
-    let lack = first_lack(inquiry);
-    let have = match lack.register() {
-        None => None,
-        Some(register) => inquiry.flow.kind(inquiry.pc, register),
-    };
-    if inquiry.flow.is_reached(inquiry.pc) && lack.cause(have) == fault.cause {
-        Some(lack)
-    } else {
-        None
+    let start = out.len();
+    tell_asked(out, &inquiry, lack);
+    let asked = (start, out.len());
+    let known = tell_found(out, &inquiry, lack);
+    out.say(".\n", &[]);
+    let start = out.len();
+    let meets = tell_origin(out, &inquiry, lack);
+    let origin = (start, out.len());
+    tell_repair(out, &inquiry, lack, meets);
+    let repair = (origin.1, out.len());
+    Parts {
+        asked,
+        known,
+        origin,
+        repair,
     }
-}
-
-// What is asked, and what is known of it.
-fn push_lack(out: &mut String, inquiry: &Inquiry, lack: Lack) -> Result<(), AllocError> {
-    push_asked(out, inquiry, lack)?;
-    if is_known_of(lack) {
-        out.push_str("; ")?;
-        push_found(out, inquiry, lack)?;
-    }
-    out.push_str(".\n")
-}
-
-// Whether what is asked is of something that the verifier knows something of.
-pub(crate) fn is_known_of(lack: Lack) -> bool {
-    !matches!(lack, Lack::Dropped | Lack::LeadsOut)
 }
 
 // What is asked.
-pub(crate) fn push_asked(
-    out: &mut String,
-    inquiry: &Inquiry,
-    lack: Lack,
-) -> Result<(), AllocError> {
-    let name = name(inquiry.instr.op);
-    let (c, x) = (inquiry.instr.c, inquiry.instr.x);
+fn tell_asked(out: &mut Teller, inquiry: &Inquiry, lack: Lack) {
+    let instr = inquiry.instr;
+    let (op, c, x) = (
+        Name::Word(name(instr.op)),
+        Name::U8(instr.c),
+        Name::U32(instr.x),
+    );
     match lack {
         Lack::Register(register, want, role) => {
-            write!(out, "{name} asks that r{register} is")?;
-            push_want(out, want)?;
-            push_role(out, inquiry, role)
+            out.say(
+                "{} asks that {} is{}",
+                &[op, Name::Register(register), Name::Want(want)],
+            );
+            tell_role(out, inquiry, role);
         }
-        Lack::NoField(register, _) => {
-            write!(
-                out,
-                "{name} asks for field {c} of the object in r{register}"
-            )
-        }
-        Lack::Home(register, at, role) => {
-            write!(out, "{name} asks that the home of r{register} is ")?;
-            push_term(out, at)?;
-            push_role(out, inquiry, role)
-        }
-        Lack::NoResult => write!(out, "{name} has no result here, so its first number is 0"),
-        Lack::Dropped => write!(
-            out,
-            "{name} starts an activity with function {x}, whose result nothing would take: it may give none"
+        Lack::NoField(register, _) => out.say(
+            "{} asks for field {} of the object in {}",
+            &[op, c, Name::Register(register)],
         ),
-        Lack::LeadsOut => out.push_str("The function goes on past its last instruction"),
+        Lack::Home(register, at, role) => {
+            out.say(
+                "{} asks that the home of {} is {}",
+                &[op, Name::Register(register), Name::Place(at)],
+            );
+            tell_role(out, inquiry, role);
+        }
+        Lack::NoResult => out.say("{} has no result here, so its first number is 0", &[op]),
+        Lack::Dropped => out.say(
+            "{} starts an activity with function {}, whose result nothing would take: it may give none",
+            &[op, x],
+        ),
+        Lack::LeadsOut => out.say("The function goes on past its last instruction", &[]),
     }
 }
 
-// What is known of what is asked.
-pub(crate) fn push_found(
-    out: &mut String,
-    inquiry: &Inquiry,
-    lack: Lack,
-) -> Result<(), AllocError> {
+// What is known of what is asked, where it is of something that the verifier knows something of; and which bytes say so.
+fn tell_found(out: &mut Teller, inquiry: &Inquiry, lack: Lack) -> (usize, usize) {
+    if matches!(lack, Lack::Dropped | Lack::LeadsOut) {
+        return (0, 0);
+    }
+    out.say("; ", &[]);
+    let start = out.len();
     match lack {
-        Lack::Register(register, ..) => {
-            push_known(out, register, inquiry.flow.kind(inquiry.pc, register))
-        }
+        Lack::Register(register, ..) => tell_known(out, register, inquiry.kind(register)),
         Lack::NoField(_, class) => {
-            let count = match fields_of(inquiry.image, usize::from(class)) {
+            let count = match inquiry.site.fields(usize::from(class)) {
                 None => 0,
                 Some(fields) => fields.len(),
             };
-            write!(out, "its class {class} has {count} fields, numbered from 0")
+            out.say(
+                "its class {} has {} fields, numbered from 0",
+                &[Name::U16(class), Name::Usize(count)],
+            );
         }
-        Lack::Home(..) => out.push_str("it isn't known to be"),
-        Lack::NoResult => {
-            let a = inquiry.instr.a;
-            write!(out, "it is {a}")
-        }
-        Lack::Dropped | Lack::LeadsOut => Ok(()),
+        Lack::NoResult => out.say("it is {}", &[Name::U8(inquiry.instr.a)]),
+        _ => out.say("it isn't known to be", &[]),
+    }
+    (start, out.len())
+}
+
+/// What a register is known to be: `r1 is int`, or `r1 isn't set`.
+pub(crate) fn tell_known(out: &mut Teller, register: u8, kind: Option<Kind>) {
+    let register = Name::Register(register);
+    match kind {
+        None => out.say("{} isn't set", &[register]),
+        Some(kind) => out.say("{} is{}", &[register, Name::Kind(kind)]),
     }
 }
 
 // What a register is for.
-fn push_role(out: &mut String, inquiry: &Inquiry, role: Role) -> Result<(), AllocError> {
-    let x = inquiry.instr.x;
-    match role {
-        Role::Operand => Ok(()),
-        Role::Field(n) => write!(out, ", for field {n} of class {x}"),
+fn tell_role(out: &mut Teller, inquiry: &Inquiry, role: Role) {
+    let x = Name::U32(inquiry.instr.x);
+    let slot = match role {
+        Role::Operand => None,
+        Role::Field(n) => {
+            out.say(", for field {} of class {}", &[Name::Usize(n), x]);
+            None
+        }
         Role::Argument(n) => {
-            write!(out, ", for parameter {n} of function {x}")?;
-            match callee(inquiry.image, inquiry.instr) {
-                Some(signature) if n < signature.parameters() => {
-                    out.push_str(", which is")?;
-                    push_slot(out, signature.parameter(n))
-                }
-                _ => Ok(()),
+            out.say(", for parameter {} of function {}", &[Name::Usize(n), x]);
+            match inquiry.site.callee(inquiry.instr) {
+                Some(signature) if n < signature.parameters() => Some(signature.parameter(n)),
+                _ => None,
             }
         }
-        Role::Result => match inquiry.result {
-            None => Ok(()),
-            Some(slot) => {
-                out.push_str(", for the function's result, which is")?;
-                push_slot(out, slot)
-            }
-        },
+        Role::Result => {
+            out.say(", for the function's result", &[]);
+            inquiry.site.signature().result()
+        }
+    };
+    if let Some(slot) = slot {
+        out.say(", which is{}", &[Name::Slot(slot)]);
     }
 }
