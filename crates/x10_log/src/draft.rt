@@ -9,8 +9,8 @@ ghost use Rattle.x10_log.specs.Reading.{Said, said, said_text, FitsSaid, tail_by
 
 use crate::fault::LogCause;
 use crate::item::{Item, item_at};
-use x10_hall::limits::{MOST_STEPS, MOST_TAKEN};
 use std::alloc::{AllocError, Global};
+use x10_hall::limits::{MOST_STEPS, MOST_TAKEN};
 use x10_hall::{Keys, Posted, Turn};
 use x10_place::Line;
 

@@ -202,14 +202,14 @@ module _ (c : Certified) (places new : List PlaceState) (flights : FlightsState)
             | inr last ↦ elim last [
               | inl begins ↦ inr (inl (record { old = p; new = t.0; old_is = there; new_is = at; begins = begins }))
               | inr sends ↦ inr (inr (record {
-                  old = p;
-                  new = t.0;
-                  old_is = there;
-                  new_is = at;
-                  sent = out;
-                  sends = sends_last key p n out t.0 t.2.ran sends;
-                  posted = ap (λ (g : FlightsState). g.posted) same ∙ posted_more roomy out;
-                }))
+                old = p;
+                new = t.0;
+                old_is = there;
+                new_is = at;
+                sent = out;
+                sends = sends_last key p n out t.0 t.2.ran sends;
+                posted = ap (λ (g : FlightsState). g.posted) same ∙ posted_more roomy out;
+              }))
             ]
           ]
 

@@ -82,7 +82,7 @@ loop-made-preserved c =
       goes = c.in_ok-count_event.ensures.goes;
       due = λ other. let before = not_rounds c.loop-made.scheduler c.next.new.self c.next.new.self (sym c.next.ensures.kept) refl other in
           more.1 (c.loop-made.invariant.due before) (due_by c.loop-made.scheduler c.loop-made.world c.in_ok-next.field-0 c.unwrap_or-event.result _ before c.in_ok-next.ensures.able
-      c.in_ok-next.ensures.none c.unwrap_or-event.ensures);
+          c.in_ok-next.ensures.none c.unwrap_or-event.ensures);
       follows = c.next.ensures.kept ∙ c.loop-made.invariant.follows;
     }
 
@@ -164,5 +164,5 @@ returns-then-closed-clause-due c = λ other on.
         goes = c.in_ok-count_event.ensures.goes;
       };
       due = more.1 (c.loop-made.invariant.due before) (due_by c.loop-made.scheduler c.loop-made.world c.in_ok-next.field-0 c.unwrap_or-event.result _ before c.in_ok-next.ensures.able
-      c.in_ok-next.ensures.none c.unwrap_or-event.ensures);
+          c.in_ok-next.ensures.none c.unwrap_or-event.ensures);
     }
