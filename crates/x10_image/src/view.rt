@@ -110,6 +110,22 @@ impl<'a> ImageView<'a> {
         whole(alloc, bytes)
     }
 
+    /// The same module, over other bytes that spell it: for a caller that verified a module before it keeps a copy of its image.
+    /// Constant time and no memory.
+    pub fn over<'b>(self, bytes: &'b [u8]) -> ImageView<'b>
+        requires same { bytes.now ≡ spelling self }
+        ensures { result ≡ self.entry }
+    {
+        ImageView {
+            bytes,
+            header: self.header,
+            ints: self.ints,
+            classes: self.classes,
+            texts: self.texts,
+            functions: self.functions,
+        }
+    }
+
     /// What holds for every image's module, for callers whose own clauses rely on it. It does nothing.
     pub fn fits(&self)
         ensures { FitsImage self.now }

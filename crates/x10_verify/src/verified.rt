@@ -7,6 +7,7 @@ ghost use Rattle.x10_code.specs.Spelling.{IsInstr, spelling as instruction};
 ghost use Rattle.x10_image.specs.Parts.{code_at};
 ghost use Rattle.x10_kinds.specs.declared.kind.Kind.TheVariants as kind;
 ghost use Rattle.x10_model.specs.Assignments.{HasAssignment, IsKind, State};
+ghost use Rattle.x10_model.specs.Images.{spelling as image_bytes};
 ghost use Rattle.x10_model.specs.Modules.{Function};
 ghost use Rattle.x10_model.specs.Ranges.{function_at, instr_at, IsInRange};
 ghost use Rattle.x10_verify.specs.Certified.{IsCertified};
@@ -92,6 +93,18 @@ impl<'a> Verified<'a> {
         ensures { result.now ≡ self.now.program }
     {
         &self.image
+    }
+
+    /// The same module with the same bounds, over other bytes that spell its image. Constant time and no memory.
+    pub fn over<'b>(self, bytes: &'b [u8]) -> Verified<'b>
+        requires same { bytes.now ≡ image_bytes self.program }
+        ensures { result ≡ self.entry }
+    {
+        Verified {
+            image: self.image.over(bytes),
+            bounds: self.bounds,
+            rows: self.rows,
+        }
     }
 
     /// The most steps that an activity takes that begins with a function. Constant time.
