@@ -66,6 +66,28 @@ not graded: eve_3.asm, in no student's folder
 not graded: dan, three.asm: its name begins with no number
 1 of 4 texts passed" "" grade class 03
 
+# a link to an answer, a link to another student's folder, a compiled image, a text of the wrong sort; and the same as a file
+mkdir -p odd/gil odd/hal
+ln -s "$answers/03_three_or_five.asm" odd/gil/3.asm
+ln -s "$top/examples/answers" odd/ida
+x10p asm "$answers/04_power.asm" odd/hal/4.asm
+printf 'a line\0' >odd/hal/5.asm
+printf '\xff\xfe' >odd/hal/10.asm
+does 0 "\
+         3      4      5     10     13
+gil     no      -      -      -      -
+hal      -     no     no     no      -
+gil, 3: 3.asm is a link
+hal, 4: 4.asm is no text
+hal, 5: 5.asm is no text
+hal, 10: run --places 5: x10p: file
+not graded: ida: it is a link
+0 of 4 texts passed" "" grade --csv odd.csv odd
+printf '%s\r\n' student,exercise,result,why "gil,3,no,3.asm is a link" gil,4,-, gil,5,-, gil,10,-, gil,13,-, hal,3,-, \
+    "hal,4,no,4.asm is no text" "hal,5,no,5.asm is no text" "hal,10,no,run --places 5: x10p: file" hal,13,-, >wanted.csv
+cmp odd.csv wanted.csv || fail "the file of results is $(cat odd.csv)"
+does 2 "" "grade: none/odd.csv can't be written: No such file or directory" grade --csv none/odd.csv odd
+
 # other checks: what has to be refused, by its cause
 mkdir -p more/ada more/ben
 cp class/cleo/13.asm more/ada/1.asm
@@ -90,9 +112,16 @@ END
 cat >endless <<'END'
 #!/bin/sh
 [ "$1" = --version ] && echo x10p 0.0.0 && exit
+[ "$*" = "run -" ] && echo 0: 7 && exit
 exec sleep 60
 END
-chmod +x third endless
+cat >broken <<'END'
+#!/bin/sh
+[ "$1" = --version ] && echo x10p 0.0.0 && exit
+echo "x10p: stop: Memory" >&2
+exit 2
+END
+chmod +x third endless broken
 echo '{"1": {"checks": [{"command": "run", "prints": ["0: 7"]}]}}' >checks.json
 rm -r more/ben
 program=./third does 0 "\
@@ -125,6 +154,8 @@ does 2 "" .. grade
 program=nowhere does 2 "" .. grade class
 grep -q "^grade: there is no program .*/nowhere: make it by ./build" .err || fail "of no program it told $(cat .err)"
 program=/bin/echo does 2 "" "grade: /bin/echo isn't x10p" grade class
+program=./broken does 2 "" .. grade class
+grep -q "^grade: .*broken can't run a program that prints 7: x10p: stop: Memory$" .err || fail "of a program that can't run it told $(cat .err)"
 does 2 "" .. grade --seconds 0 class
 if [ -c /dev/full ]; then
     grade class 3 2>.err >/dev/full
