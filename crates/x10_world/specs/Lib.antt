@@ -10,3 +10,4 @@ pub mod Rounds
 pub mod Happenings
 pub mod Runs
 pub mod EventAnswers
+pub mod Vacant

@@ -4,6 +4,7 @@ ghost use Rattle.x10_world.specs.Queries.{HasNoPlace, HasPlace};
 ghost use Rattle.x10_model.specs.declared.event.Event.TheVariants.{Step};
 ghost use Rattle.x10_place.specs.StandsFor.{inside_at};
 ghost use Rattle.x10_world.specs.Happenings.{CanHappen, AllIdle, NoneFlies, NothingCanHappen};
+ghost use Rattle.x10_world.specs.Vacant.{IsVacantAt};
 ghost use Rattle.x10_flights.specs.PlaceSets.{has_place};
 ghost use Rattle.x10_flights.specs.Flights.{flies_to, IsNext};
 ghost use Rattle.x10_world.specs.Living.{keys_at, live_at};
@@ -38,7 +39,7 @@ impl<'a> World<'a> {
     #[inline(always)]
     pub fn vacant_key(&self, place: u16) -> Option<usize>
         ensures { MatchOption result (HasNoPlace self.now.places place)
-            (λ key. HasPlace self.now.places place (λ p. key ≡ p.stays.vacant_key)) }
+            (IsVacantAt self.now place) }
     {
         let place = self.places.list().get(usize::from(place))?;
         Some(place.vacant_key())
