@@ -18,6 +18,7 @@ use Rattle.x10_world.specs.declared.rounds.Unfinished.TheVariants as halt
 use Rattle.x10_stats.specs.Counts.{Counted, CountsDue, CountsState, EachIsDue, HasCounted, HasCountedDue, IsCut, IsDue, IsUnmade, counted_with}
 use Rattle.x10_stats.specs.Counts.Counted.{begins, goes_on}
 use Rattle.x10_stats.specs.Stats.{all_events, counted, sum, with_any_type, with_flight, with_flights, with_posted, with_type}
+use Rattle.x10_stats.specs.Tallies.{IsSeenBefore}
 use Rattle.x10_stats.specs.declared.stats.Stats.{Stats}
 
 pub if_ok : {T E : Type 0} (r : Result T E) (P : Type 0) → P → IfOk r (λ _. P)
@@ -26,14 +27,14 @@ if_ok (Err e) P h = tt
 
 -- one event more, which could happen if those before it could
 pub counts_more : (s : CountsState) (x y z : WorldState) (events : List Event) (t u : CountsState) (event : Event) (before : Counted s x events t y)
-    → ((did : Done) × HasDone y event did z × (u ≡ counted_with t y event did z))
+    → IsSeenBefore y event → ((did : Done) × HasDone y event did z × (u ≡ counted_with t y event did z))
     → ((w : World) → StandsForWorld y w → MakesEvent y w event z)
     → (c : Counted s x (events ++ event ∷ []) u z)
     × (EachIsDue s x events t y before → IsDue y event → EachIsDue s x (events ++ event ∷ []) u z c)
-counts_more s x y z events t u event before one makes =
+counts_more s x y z events t u event before seen one makes =
     subst (λ v. (c : Counted s x (events ++ event ∷ []) v z)
     × (EachIsDue s x events t y before → IsDue y event → EachIsDue s x (events ++ event ∷ []) v z c)) (sym one.2)
-    (goes_on y z events t event one.0 before one.1 makes, (λ each due. (due, each)))
+    (goes_on y z events t event one.0 before seen one.1 makes, (λ each due. (due, each)))
 
 -- what a scheduler names could happen, and where it names nothing, nothing could
 pub due_by : (asked : Schedule) (x : WorldState) (o : Option Event) (event other : Event) → asked ≢ schedules.Rounds
@@ -138,7 +139,7 @@ one_event s x (done.Moved function pc op first count) few =
 pub counted_once : (s : CountsState) (x : WorldState) (events : List Event) (t : CountsState) (y : WorldState) → Counted s x events t y
     → all_events s.stats + length events < 2 ^ 64 → all_events t.stats ≡ all_events s.stats + length events
 counted_once s x _ _ _ begins few = omega arith
-counted_once s x _ _ _ (goes_on y z events t event did before done makes) few =
+counted_once s x _ _ _ (goes_on y z events t event did before seen done makes) few =
     let longer = one_longer events event (length events) refl in
     let old = counted_once s x events t y before (omega (arith, few, longer)) in
     let one = one_event t.stats z did (omega (arith, few, longer, old)) in

@@ -121,4 +121,4 @@ first_within c kept x = by_within (with_rooms (empty_tally c kept x) 0 0) 0 0 (s
 pub kept_within : (c : Certified) (kept : Bool) (x : WorldState) (events : List Event) (s : CountsState) (y : WorldState)
     → Counted (counts_at_first c kept x) x events s y → All (IsWithinMost s.tally.functions) s.tally.all
 kept_within c kept x _ _ _ begins = first_within c kept x
-kept_within c kept x _ _ _ (goes_on y z events t event did before done makes) = event_within t y event did z (kept_within c kept x events t y before)
+kept_within c kept x _ _ _ (goes_on y z events t event did before seen done makes) = event_within t y event did z (kept_within c kept x events t y before)

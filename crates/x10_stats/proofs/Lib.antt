@@ -6,3 +6,17 @@ pub mod SeveralLines
 pub mod WholeText
 pub mod MostSteps
 pub mod KeptSteps
+pub mod Slots
+pub mod EntryCounts
+pub mod Tied
+pub mod TiedEntries
+pub mod TiedChanges
+pub mod TiedMoves
+pub mod TiedDeliveries
+pub mod MoveFacts
+pub mod StaysSeen
+pub mod StepsSeen
+pub mod StepsTied
+pub mod DeliveriesTied
+pub mod EventsTied
+pub mod OpeningTied

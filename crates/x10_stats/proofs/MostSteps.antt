@@ -261,7 +261,7 @@ first_fair c kept x =
 counts_fair : (c : Certified) (kept : Bool) (x : WorldState) (events : List Event) (t : CountsState) (y : WorldState)
     → Counted (counts_at_first c kept x) x events t y → IsFair t
 counts_fair c kept x _ _ _ begins = first_fair c kept x
-counts_fair c kept x _ _ _ (goes_on y z events t event did before done makes) = event_fair t y event did z (counts_fair c kept x events t y before)
+counts_fair c kept x _ _ _ (goes_on y z events t event did before seen done makes) = event_fair t y event did z (counts_fair c kept x events t y before)
 
 pub most_steps : (c : Certified) (kept : Bool) (x : WorldState) (events : List Event) (t : CountsState) (y : WorldState)
     → Counted (counts_at_first c kept x) x events t y → All (λ (g : Begun). g.most ≤ t.stats.steps) t.tally.functions

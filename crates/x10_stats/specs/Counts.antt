@@ -13,7 +13,7 @@ use Rattle.x10_world.specs.declared.rounds.Unfinished.{Unfinished}
 use Rattle.x10_world.specs.declared.rounds.Unfinished.TheVariants as halt
 use Rattle.x10_stats.specs.Paces.{pace_at_first, paced}
 use Rattle.x10_stats.specs.Stats.{at_first, counted}
-use Rattle.x10_stats.specs.Tallies.{TallyState, ready, sight_of, tallied, tally_at_first}
+use Rattle.x10_stats.specs.Tallies.{IsSeenBefore, TallyState, ready, sight_of, tallied, tally_at_first}
 use Rattle.x10_stats.specs.declared.pace.Pace.{Pace}
 use Rattle.x10_stats.specs.declared.stats.Stats.{Stats}
 
@@ -49,7 +49,7 @@ pub data Counted (s : CountsState) (x : WorldState) : List Event → CountsState
     → Type 0 where
   begins : Counted s x [] s x
   goes_on : (y z : WorldState) (events : List Event) (t : CountsState) (event : Event) (did : Done)
-      → Counted s x events t y → HasDone y event did z
+      → Counted s x events t y → IsSeenBefore y event → HasDone y event did z
       → ((w : World) → StandsForWorld y w → MakesEvent y w event z)
       → Counted s x (events ++ event ∷ []) (counted_with t y event did z) z
 
@@ -61,7 +61,7 @@ IsDue x event = CanHappen x event ⊎ NothingCanHappen x
 abbrev pub EachIsDue : (s : CountsState) (x : WorldState) (events : List Event) (t : CountsState)
     (y : WorldState) → Counted s x events t y → Type 0
 EachIsDue s x _ _ _ begins = Unit {0}
-EachIsDue s x _ _ _ (goes_on y z events t event did before done makes) =
+EachIsDue s x _ _ _ (goes_on y z events t event did before seen done makes) =
     IsDue y event × EachIsDue s x events t y before
 
 -- at most so many events were made and counted, and the world goes on
@@ -82,8 +82,8 @@ pub record IsStopped (s : CountsState) (x : WorldState) (limit : ℕ) (t : Count
   pub stops : StopsAt state event why y
   pub same : t ≡ prepared counts state event
 
--- Why no more were made: as many were as were allowed, and the run has not ended; memory was refused, for the lists or for what is counted; or the next
--- event was.
+-- Why no more were made: as many were as were allowed, and the run has not ended; memory was refused, for the lists or for what
+-- is counted; or the next event was.
 abbrev pub IsCut : CountsState → WorldState → ℕ → CountsState → WorldState → Unfinished → Type 0
 IsCut s x limit t y halt.Limit = (h : HasCounted s x limit t y) × ((length h.events ≡ limit)
     × IsOpenAt limit y)

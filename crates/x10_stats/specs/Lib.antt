@@ -4,3 +4,5 @@ pub mod Paces
 pub mod Counts
 pub mod Lines
 pub mod Laws
+pub mod Entries
+pub mod MachineRuns

@@ -1,5 +1,5 @@
 -- Which activity each stay is of, how many steps that has made, and what is told of each function.
-use Rattle.std.specs.Prelude.{ℕ, ◌-◌, max, Bool, List, [], ◌++◌, Option, Some, None, length, replicate, slice_get, slice_set, if◌then◌else◌}
+use Rattle.std.specs.Prelude.{◌≡◌, ℕ, ◌-◌, max, Bool, List, [], ◌++◌, Option, Some, None, length, replicate, slice_get, slice_set, if◌then◌else◌}
 use Rattle.slab.specs.Slab.{get}
 use Rattle.x10_flights.specs.Flights.{Flight, flight_of}
 use Rattle.x10_model.specs.Places.{Origin}
@@ -8,7 +8,7 @@ use Rattle.x10_model.specs.declared.event.Event.TheVariants.{Step, Deliver}
 use Rattle.x10_place.specs.Stays.{StayState}
 use Rattle.x10_place.specs.StandsFor.{PlaceState}
 use Rattle.x10_verify.specs.Certified.{Certified}
-use Rattle.x10_world.specs.StandsForWorld.{WorldState}
+use Rattle.x10_world.specs.StandsForWorld.{BelongsTo, WorldState}
 use Rattle.x10_world.specs.declared.done.Done.{Done}
 use Rattle.x10_world.specs.declared.done.Done.TheVariants as done
 use Rattle.x10_stats.specs.Stats.{sum}
@@ -164,6 +164,16 @@ sight_of x (Step place key) = record {
   back = back_of (stay_at x place key);
 }
 sight_of x (Deliver number) = sight_to x (flight_of x.flights number)
+
+-- What is known of the place of an event: it is one of the world, and no stay has the key that the next one gets there.
+pub record IsSeen (x : WorldState) (place : ℕ) : Type 0 where
+  pub belongs : (p : PlaceState) → slice_get x.places place ≡ Some p
+      → BelongsTo x.program x.bounds (length x.places) place p
+  pub vacant : stay_at x place (vacant_at x place) ≡ None
+
+abbrev pub IsSeenBefore : WorldState → Event → Type 0
+IsSeenBefore x (Step place key) = IsSeen x place
+IsSeenBefore x (Deliver number) = (f : Flight) → flight_of x.flights number ≡ Some f → IsSeen x f.to
 
 -- ---- what an event does more
 

@@ -10,6 +10,7 @@ ghost use Rattle.x10_world.specs.Rounds.{NoneIsLeft, RunsTo};
 ghost use Rattle.x10_world.specs.StandsForWorld.{StandsForWorld, MakesEvent};
 ghost use Rattle.x10_schedule.specs.declared.schedule.Schedule.TheVariants as schedules;
 ghost use Rattle.x10_stats.specs.Counts.{CountsDue, HasCounted, IsCut, IsUnmade, counted_with};
+ghost use Rattle.x10_stats.specs.Tallies.{IsSeenBefore};
 
 use crate::counts::Counts;
 use crate::sight::look;
@@ -61,6 +62,7 @@ pub fn count_run(
 /// world has changed.
 fn count_event(world: &mut World, event: Event, counts: &mut Counts) -> Result<(), Unfinished>
     requires { world.old.stopped ≢ true }
+    ensures seen { IsSeenBefore world.old event }
     ensures done { OnOk result ((did : Done) × HasDone world.old event did world.new
         × (counts.new ≡ counted_with counts.old world.old event did world.new)) }
     ensures made { IfOk result (λ _. (w : machine.World) → StandsForWorld world.old w

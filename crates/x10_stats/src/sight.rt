@@ -2,7 +2,8 @@
 ghost use Rattle.std.specs.Prelude.{◌≡◌, MatchOption, None, Some};
 ghost use Rattle.x10_place.specs.Stays.{origin_as};
 ghost use Rattle.x10_flights.specs.Flights.{flight_of};
-ghost use Rattle.x10_stats.specs.Tallies.{as_pair, back_of, sight_of, sight_to, stay_at, vacant_at};
+ghost use Rattle.x10_stats.specs.Tallies.{IsSeen, IsSeenBefore, as_pair, back_of, sight_of, sight_to, stay_at, vacant_at};
+ghost use Rattle.x10_model.specs.declared.event.Event.TheVariants.{Deliver};
 
 use x10_model::Event;
 use x10_place::{Origin, Stay};
@@ -23,7 +24,8 @@ pub(crate) struct Sight {
 
 /// What is seen of a world before an event. Constant time, of a delivery logarithmic in the frames in flight. Takes no memory.
 pub(crate) fn look(world: &World, event: Event) -> Sight
-    ensures { result ≡ sight_of world.now event }
+    ensures sight { result ≡ sight_of world.now event }
+    ensures seen { IsSeenBefore world.now event }
 {
     match event {
         Event::Step(place, key) => Sight {
@@ -38,7 +40,8 @@ pub(crate) fn look(world: &World, event: Event) -> Sight
 
 /// The same before the delivery of the frame with a number.
 fn look_at_frame(world: &World, number: u64) -> Sight
-    ensures { result ≡ sight_to world.now (flight_of world.now.flights number) }
+    ensures sight { result ≡ sight_to world.now (flight_of world.now.flights number) }
+    ensures seen { IsSeenBefore world.now (Deliver number) }
 {
     match world.frame(number) {
         Some((place, _)) => Sight {
@@ -58,12 +61,10 @@ fn look_at_frame(world: &World, number: u64) -> Sight
 
 /// The key that the next stay gets that begins at a place; 0 where there is no such place.
 fn vacant_key(world: &World, place: u16) -> usize
-    ensures { result ≡ vacant_at world.now place }
+    ensures key { result ≡ vacant_at world.now place }
+    ensures seen { IsSeen world.now place }
 {
-    match world.place(place) {
-        Some(place) => place.vacant_key(),
-        None => 0,
-    }
+    world.vacant_key(place).unwrap_or(0)
 }
 
 /// The stay with a key at a place; none where there is no such stay, or no such place.

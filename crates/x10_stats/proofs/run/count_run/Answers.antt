@@ -62,7 +62,7 @@ returns-then-closed-clause-counted c = λ on.
       events = c.loop-made.invariant.events ++ c.unwrap_or-event.result ∷ [];
       few = omega (arith, longer, c.loop-made-test.true);
       counts = (counts_more c.args.counts.now c.args.world.now c.loop-made.world c.count_event.new.world c.loop-made.invariant.events
-          c.loop-made.counts c.count_event.new.counts c.unwrap_or-event.result c.loop-made.invariant.counted c.in_ok-count_event.ensures.done
+          c.loop-made.counts c.count_event.new.counts c.unwrap_or-event.result c.loop-made.invariant.counted c.count_event.ensures.seen c.in_ok-count_event.ensures.done
           c.in_ok-count_event.ensures.made).0;
       goes = c.in_ok-count_event.ensures.goes;
     }
@@ -73,7 +73,7 @@ returns-then-closed-clause-ended c = record { over = λ w stand. c.closed.ensure
 pub loop-made-preserved : goal.loop-made-preserved
 loop-made-preserved c =
     let more = counts_more c.args.counts.now c.args.world.now c.loop-made.world c.count_event.new.world c.loop-made.invariant.events
-    c.loop-made.counts c.count_event.new.counts c.unwrap_or-event.result c.loop-made.invariant.counted c.in_ok-count_event.ensures.done
+    c.loop-made.counts c.count_event.new.counts c.unwrap_or-event.result c.loop-made.invariant.counted c.count_event.ensures.seen c.in_ok-count_event.ensures.done
     c.in_ok-count_event.ensures.made in record {
       runs = runs_on c.args.world.now c.loop-made.world c.count_event.new.world c.loop-made.invariant.runs c.count_event.ensures.runs;
       events = c.loop-made.invariant.events ++ c.unwrap_or-event.result ∷ [];
@@ -155,7 +155,7 @@ returns-then-closed-clause-due c = λ other on.
     let longer = one_longer c.loop-made.invariant.events c.unwrap_or-event.result c.loop-made.made c.loop-made.invariant.count in
     let before = (not_rounds c.loop-made.scheduler c.in_ok-scheduler.scheduler c.args.schedule c.loop-made.invariant.follows c.in_ok-scheduler.ensures other) in
     let more = counts_more c.args.counts.now c.args.world.now c.loop-made.world c.count_event.new.world c.loop-made.invariant.events
-    c.loop-made.counts c.count_event.new.counts c.unwrap_or-event.result c.loop-made.invariant.counted c.in_ok-count_event.ensures.done
+    c.loop-made.counts c.count_event.new.counts c.unwrap_or-event.result c.loop-made.invariant.counted c.count_event.ensures.seen c.in_ok-count_event.ensures.done
     c.in_ok-count_event.ensures.made in record {
       has = record {
         events = c.loop-made.invariant.events ++ c.unwrap_or-event.result ∷ [];
