@@ -46,11 +46,11 @@ abbrev pub IsHinderedNext : WorldState → List Event → ℕ → Stop → Type 
 IsHinderedNext x events n why = (next : Event) × (slice_get events n ≡ Some next)
     × IsHinderedAt x next why
 
--- A run of the machine, from its opening, where main has key 0, under the events that were made: none goes wrong, and no activity takes more
--- steps than its bound; and where no frame is in flight, none waits at the end of a finish that may end (`course`). The
--- world is opened at so many places, which is a permitted number, and each event leads from one of its states to the next.
--- All events were made, or a Stop is told of the one after them, and why it was refused; the lines, and whether the run has
--- ended, are those of the last state.
+-- A run of the machine, from its opening, where main has key 0, under the events that were made: none goes wrong, and no
+-- activity takes more steps than its bound; and where no frame is in flight, none waits at the end of a finish that may end
+-- (`course`). The world is opened at so many places, which is a permitted number, and each event leads from one of its states
+-- to the next. All events were made, or a Stop is told of the one after them, and why it was refused; the lines, and whether
+-- the run has ended, are those of the last state.
 pub record IsEndingOf (c : Certified) (count : ℕ) (events : List Event)
     (outputs : List (List machine.Line)) (e : Ending) : Type 0 where
   pub last : World
