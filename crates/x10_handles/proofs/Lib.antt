@@ -2,3 +2,4 @@ pub mod Behind
 pub mod Parts
 pub mod Stepping
 pub mod BehindWorld
+pub mod Histories

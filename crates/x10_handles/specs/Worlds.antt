@@ -1,5 +1,5 @@
 -- A world behind a handle, and what is done with it.
-use Rattle.std.specs.Prelude.{◌≡◌, ◌≢◌, ◌↔◌, ℕ, ◌∷◌, [], Bool, true, false, Option, Some, None, Result, Err, IsSome, IsTrue, IfOk, IfErr, MatchOption}
+use Rattle.std.specs.Prelude.{◌≡◌, ◌≢◌, ◌↔◌, ℕ, List, ◌∷◌, [], Bool, true, false, Option, Some, None, Result, Err, IsSome, IsTrue, IfOk, IfErr, MatchOption}
 use Rattle.x10_kinds.specs.declared.stop.Stop.{Stop}
 use Rattle.x10_kinds.specs.declared.stop.Stop.TheVariants as stop
 use Rattle.x10_model.specs.declared.event.Event.{Event}
@@ -18,6 +18,7 @@ use Rattle.x10_handles.specs.declared.inside.Inside.TheVariants as inside
 use Rattle.x10_handles.specs.declared.unopened.Unopened.{Unopened}
 use Rattle.x10_handles.specs.declared.unopened.Unopened.TheVariants as unopened
 use Rattle.x10_handles.specs.Handles.{inside_of}
+use Rattle.x10_handles.specs.Histories.{IsRun, IsRunOf, events_after}
 
 -- ---- what is behind a handle
 
@@ -31,10 +32,10 @@ abbrev pub WorksAsWorld : Handle → Handle → (WorldState → WorldState → T
 WorksAsWorld old new Acts = (x : WorldState) × (y : WorldState)
     × (inside_of old ≡ Some (inside.World x)) × (inside_of new ≡ Some (inside.World y)) × Acts x y
 
--- the same where the world stays as it is
+-- the same where the world stays as it is: what it shows is the end of a run from its opening
 abbrev pub ShowsWorld : Handle → Handle → (WorldState → Type 0) → Type 0
 ShowsWorld old new Has = (x : WorldState) × (inside_of old ≡ Some (inside.World x))
-    × (inside_of new ≡ inside_of old) × Has x
+    × (inside_of new ≡ inside_of old) × IsRun x × Has x
 
 -- what is behind a handle is no world, and stays
 abbrev pub LacksWorldIn : Inside → Inside → Type 0
@@ -47,7 +48,8 @@ AltersWorld old new Acts = (x : WorldState) × (y : WorldState) × (old ≡ insi
 
 -- ---- what a world does
 
--- An event, as a world makes it (x10_world), and whether something moved.
+-- An event, as a world makes it (x10_world), and whether something moved. A run that led to the world before it leads to the
+-- one after it with this event more, or with the same events where it was refused.
 pub record IsMade (x : WorldState) (event : Event) (result : Result Bool Stop) (y : WorldState)
     : Type 0 where
   pub told : IfOk result (λ moved. Happened x.places x.flights event moved y.places y.flights)
@@ -58,8 +60,11 @@ pub record IsMade (x : WorldState) (event : Event) (result : Result Bool Stop) (
   pub stopped : x.stopped ≡ true → (result ≡ Err stop.Stopped) × (y ≡ x)
   pub goes : IfOk result (λ moved. y.stopped ≢ true)
   pub hindered : x.stopped ≢ true → IfErr result (λ why. StopsAt x event why y)
+  pub left : IfErr result (λ why. (w : machine.World) → StandsForWorld x w → StandsForWorld y w)
   pub stop : IfErr result (λ why. y.stopped ≡ true)
   pub kept : KeepsSetting x y
+  pub history : (c : Certified) (count : ℕ) (events : List Event) → IsRunOf c count events x
+      → IsRunOf c count (events_after events event result) y
 
 -- Whether the run has ended, as place 0 knows it: then no activity lives. Conversely, where none lives and no frame is in
 -- flight, it has ended.
@@ -93,7 +98,8 @@ IsWhyNoWorld m h places unopened.Memory = Unit {0}
 pub record OpensWorld (m m_after old new : Option Inside) (places : ℕ)
     (result : Result Unit Unopened) : Type 0 where
   pub opened : IfOk result (λ u. (v : Certified) × (m ≡ Some (inside.Module v))
-      × (x : WorldState) × (new ≡ Some (inside.World x)) × IsOpenedWorld v places x)
+      × (x : WorldState) × (new ≡ Some (inside.World x)) × IsOpenedWorld v places x
+      × IsRunOf v places [] x)
   pub shut : IfOk result (λ u. old ≡ None)
   pub why : IfErr result (IsWhyNoWorld m old places)
   pub kept : IfErr result (λ e. new ≡ old)

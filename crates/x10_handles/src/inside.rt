@@ -1,6 +1,6 @@
 use crate::module::Module;
+use crate::run::Run;
 use crate::station::Station;
-use x10_world::World;
 
 /// What is behind a handle.
 #[derive(Drop)]
@@ -10,5 +10,5 @@ pub enum Inside {
     /// A place.
     Place(Station),
     /// All places of a run, and the frames between them.
-    World(World<'static>),
+    World(Run),
 }

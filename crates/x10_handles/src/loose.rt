@@ -4,6 +4,7 @@ ghost use Rattle.std.specs.Box.Ownership.{box_owns};
 
 use std::alloc::Allocator;
 use std::marker::Model;
+use std_alloc::room::Vacant;
 
 /// The block of a box, and the allocator that it is of.
 pub(crate) struct Loose<T, A: Allocator> {
@@ -25,6 +26,17 @@ impl<T, A: Allocator> Loose<T, A> {
     {
         let (at, alloc) = Box::into_raw_with_allocator(whole);
         Loose { at, alloc }
+    }
+
+    /// Puts a value into memory that was allocated for it.
+    pub(crate) fn write(room: Vacant<T, A>, value: T) -> Loose<T, A>
+        ensures { result.value ≡ value }
+    {
+        let Vacant { ptr, alloc } = room;
+        unsafe {
+            ptr.write(value);
+        }
+        Loose { at: ptr, alloc }
     }
 
     /// The box again.

@@ -1,5 +1,6 @@
 //! Handles that are opened: of a module, and of a place.
 ghost use Rattle.std.specs.Prelude.{◌≡◌, ◌↔◌, ◌<◌, ◌≤◌, ◌⊎◌, Some, None, Err, IsTrue, IsSome, IfOk, IfErr, MatchOption};
+ghost use Rattle.x10_model.specs.Images.{spelling};
 ghost use Rattle.x10_verify.specs.Certified.{Certified};
 ghost use Rattle.x10_handles.specs.declared.inside.Inside.TheVariants as inside;
 ghost use Rattle.x10_handles.specs.declared.unopened.Unopened.TheVariants as why;
@@ -8,11 +9,13 @@ ghost use Rattle.x10_handles.specs.Opened.{IsForbidden, IsNewPlace, OpensPlace};
 
 use crate::handle::{Handle, MARK};
 use crate::inside::Inside;
+use crate::loose::Loose;
 use crate::module::Module;
 use crate::opening::{put, take};
 use crate::station::Station;
 use crate::unopened::Unopened;
-use std::alloc::Global;
+use std::alloc::{AllocError, Global};
+use std_alloc::room::Vacant;
 use x10_model::limits::MOST_PLACES;
 use x10_verify::Verified;
 
@@ -40,14 +43,38 @@ pub(crate) fn module_of(alloc: Global, handle: &mut Handle) -> Option<&'static V
     verified
 }
 
-/// Opens a handle of a module that was verified.
+/// A copy of bytes.
+fn copied(alloc: Global, bytes: &[u8]) -> Result<Vec<u8>, AllocError>
+    ensures { IfOk result (λ copy. copy.items ≡ bytes.now) }
+{
+    let mut copy = Vec::with_capacity(alloc, bytes.len())?;
+    copy.extend_from_slice(bytes)?;
+    Ok(copy)
+}
+
+/// Keeps a module to the end of the program, over a copy of its image. All memory was allocated before, so nothing is refused.
+fn kept(
+    room: Vacant<Verified<'static>, Global>,
+    copy: Vec<u8>,
+    verified: Verified,
+) -> &'static Verified<'static>
+    requires copy { copy.items ≡ spelling verified.program }
+    ensures { result.now ≡ verified.entry }
+{
+    let bytes = copy.leak();
+    Box::leak(Loose::write(room, verified.over(bytes)).into_box())
+}
+
+/// Opens a handle of a module that was verified. The module and a copy of its image stay to the end of the program. All memory is
+/// allocated before any is kept, so where it is refused nothing stays.
 pub fn open_module(
     alloc: Global,
-    verified: &'static Verified<'static>,
+    verified: Verified,
+    image: &[u8],
     handle: &mut Handle,
 ) -> Result<(), Unopened>
-    ensures opened { IfOk result
-        (λ _. inside_of handle.new ≡ Some (inside.Module verified.now)) }
+    requires image { image.now ≡ spelling verified.program }
+    ensures opened { IfOk result (λ _. inside_of handle.new ≡ Some (inside.Module verified.entry)) }
     ensures shut { IfOk result (λ _. inside_of handle.old ≡ None) }
     ensures used { result ≡ Err why.InUse → IsSome (inside_of handle.old) }
     ensures why { IfErr result (λ e. (e ≡ why.InUse) ⊎ (e ≡ why.Memory)) }
@@ -56,10 +83,19 @@ pub fn open_module(
     if is_open(handle) {
         return Err(Unopened::InUse);
     }
-    let Ok(inside) = Box::new(alloc, Inside::Module(Module::new(verified))) else {
+    let Ok(copy) = copied(alloc, image) else {
         return Err(Unopened::Memory);
     };
-    put(handle, inside);
+    let Ok(room) = Vacant::take(alloc) else {
+        return Err(Unopened::Memory);
+    };
+    let Ok(slot) = Vacant::take(alloc) else {
+        drop(room.free());
+        return Err(Unopened::Memory);
+    };
+    let module = Module::new(kept(room, copy, verified));
+    let opened = Loose::write(slot, Inside::Module(module)).into_box();
+    put(handle, opened);
     Ok(())
 }
 

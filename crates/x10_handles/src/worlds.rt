@@ -1,23 +1,25 @@
 //! A world behind a handle: all places of a run, and the frames between them. Each call answers none where no world is there.
-ghost use Rattle.std.specs.Prelude.{◌≡◌, ◌⊎◌, None, Some, Err, IfOk, IfErr, MatchOption};
+ghost use Rattle.std.specs.Prelude.{◌≡◌, ◌⊎◌, [], None, Some, Err, IfOk, IfErr, MatchOption};
 ghost use Rattle.x10_verify.specs.Certified.{Certified};
 ghost use Rattle.x10_world.specs.Opening.{IsForbidden, IsOpenedWorld};
 ghost use Rattle.x10_world.specs.StandsForWorld.{WorldState};
 ghost use Rattle.x10_handles.specs.declared.inside.Inside.TheVariants as behind;
 ghost use Rattle.x10_handles.specs.declared.unopened.Unopened.TheVariants as why;
 ghost use Rattle.x10_handles.specs.Handles.{inside_of};
+ghost use Rattle.x10_handles.specs.Histories.{IsRun, IsRunOf};
 ghost use Rattle.x10_handles.specs.Worlds.{AltersWorld, IsEnded, IsFrameFrom, IsFromAt, IsMade, LacksWorld, LacksWorldIn, OpensWorld, ShowsWorld, WorksAsWorld};
 
 use crate::handle::Handle;
 use crate::inside::Inside;
 use crate::made::{is_open, module_of};
 use crate::opening::{put, take};
+use crate::run::Run;
 use crate::unopened::Unopened;
 use std::alloc::Global;
 use x10_kinds::Stop;
 use x10_model::Event;
 use x10_verify::Verified;
-use x10_world::{OpenFault, World};
+use x10_world::OpenFault;
 
 /// A world of a module at the beginning.
 fn opened(
@@ -26,16 +28,16 @@ fn opened(
     places: u16,
 ) -> Result<Box<Inside>, Unopened>
     ensures opened { IfOk result (λ b. (x : WorldState) × (b.value ≡ behind.World x)
-        × IsOpenedWorld verified.now places x) }
+        × IsOpenedWorld verified.now places x × IsRunOf verified.now places [] x) }
     ensures places { result ≡ Err why.Places → IsForbidden verified.now places }
     ensures why { IfErr result (λ e. (e ≡ why.Places) ⊎ (e ≡ why.Memory)) }
 {
-    let world = match World::open(alloc, verified, places) {
-        Ok(world) => world,
+    let run = match Run::open(alloc, verified, places) {
+        Ok(run) => run,
         Err(OpenFault::Places) => return Err(Unopened::Places),
         Err(OpenFault::Memory) => return Err(Unopened::Memory),
     };
-    let Ok(inside) = Box::new(alloc, Inside::World(world)) else {
+    let Ok(inside) = Box::new(alloc, Inside::World(run)) else {
         return Err(Unopened::Memory);
     };
     Ok(inside)
@@ -62,21 +64,13 @@ pub fn open_world(
     Ok(())
 }
 
-/// An event of a world, and whether something moved.
-fn made_in(world: &mut World, event: Event) -> Result<bool, Stop>
-    ensures { IsMade world.old event result world.new }
-{
-    world.going()?;
-    world.make_one(event)
-}
-
 /// An event of what is behind a handle, and whether something moved.
 fn happen_in(inside: &mut Inside, event: Event) -> Option<Result<bool, Stop>>
     ensures { MatchOption result (LacksWorldIn inside.old inside.new)
         (λ r. AltersWorld inside.old inside.new (λ x y. IsMade x event r y)) }
 {
     match inside {
-        Inside::World(world) => Some(made_in(world, event)),
+        Inside::World(run) => Some(run.happen(event)),
         Inside::Module(_) => None,
         Inside::Place(_) => None,
     }
@@ -106,7 +100,7 @@ pub fn next_key_at(
 {
     let inside = take(alloc, handle)?;
     let found = match &*inside {
-        Inside::World(world) => Some(world.next_key(place, from)),
+        Inside::World(run) => Some(run.world().next_key(place, from)),
         Inside::Module(_) => None,
         Inside::Place(_) => None,
     };
@@ -121,7 +115,7 @@ pub fn next_frame(alloc: Global, handle: &mut Handle, place: u16, from: u64) -> 
 {
     let inside = take(alloc, handle)?;
     let found = match &*inside {
-        Inside::World(world) => Some(world.next_frame(place, from)),
+        Inside::World(run) => Some(run.world().next_frame(place, from)),
         Inside::Module(_) => None,
         Inside::Place(_) => None,
     };
@@ -129,11 +123,12 @@ pub fn next_frame(alloc: Global, handle: &mut Handle, place: u16, from: u64) -> 
     found
 }
 
-/// Whether the run of a world has ended.
-fn ended_in(world: &World) -> bool
-    ensures { IsEnded world.now result }
+/// Whether a run has ended.
+fn ended_in(run: &Run) -> bool
+    ensures ended { IsEnded run.now result }
+    ensures run { IsRun run.now }
 {
-    world.closed()
+    run.world().closed()
 }
 
 /// Whether the run has ended, as place 0 knows it: then no activity lives.
@@ -143,7 +138,7 @@ pub fn has_ended(alloc: Global, handle: &mut Handle) -> Option<bool>
 {
     let inside = take(alloc, handle)?;
     let ended = match &*inside {
-        Inside::World(world) => Some(ended_in(world)),
+        Inside::World(run) => Some(ended_in(run)),
         Inside::Module(_) => None,
         Inside::Place(_) => None,
     };
