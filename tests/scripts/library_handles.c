@@ -378,9 +378,10 @@ static void refusals(void)
     }
 }
 
-/* The same of a module that is opened. */
+/* With each request for memory refused a module is opened, or its handle stays closed and all memory is given back. */
 static void module_refusals(void)
 {
+    long before = taken;
     for (long which = 1; which < 100000; which++) {
         burjeeg_module other = BURJEEG_SHUT;
         requests = 0;
@@ -394,7 +395,7 @@ static void module_refusals(void)
             return;
         }
         SAYS(status == BURJEEG_STOPPED && fault.kind == BURJEEG_MEMORY);
-        SAYS(other.mark == 0);
+        SAYS(other.mark == 0 && taken == before);
     }
 }
 

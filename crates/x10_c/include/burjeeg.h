@@ -183,7 +183,7 @@ typedef struct burjeeg_place {
 } burjeeg_place;
 
 /* Verifies an image, as burjeeg_verify does, and opens a handle of its module. The bytes are copied. BURJEEG_REFUSED and
- * BURJEEG_STOPPED: the fault says why. BURJEEG_IN_USE: the handle is open already. */
+ * BURJEEG_STOPPED: the fault says why, and no memory stays taken. BURJEEG_IN_USE: the handle is open already. */
 uint32_t burjeeg_module_new(const uint8_t *image, size_t length, burjeeg_module *module, burjeeg_fault *fault);
 
 /* Closes the handle of a module; one that is closed stays so. The module's memory is kept to the end of the program, since

@@ -1,10 +1,10 @@
 //! The calls of the header about a module behind a handle.
-ghost use Rattle.std.specs.Prelude.{◌≡◌, ◌≢◌, None, Some, IfOk, IfErr, IsSome};
+ghost use Rattle.std.specs.Prelude.{◌≡◌, ◌≢◌, None, Some, IsSome};
 ghost use Rattle.x10_verify.specs.Certified.{Certified};
 ghost use Rattle.x10_world.specs.Endings.{IsImageOf};
 ghost use Rattle.x10_handles.specs.declared.inside.Inside.TheVariants as behind;
 ghost use Rattle.x10_handles.specs.Handles.{inside_of};
-ghost use Rattle.x10_cli.specs.Answers.{IsDue, IsVerifiedImage, status_of};
+ghost use Rattle.x10_cli.specs.Answers.{IsVerifiedImage};
 ghost use Rattle.x10_c.specs.Numbers.{no_fault};
 ghost use Rattle.x10_c.specs.Calls.{IsMutAddress, IsTold};
 
@@ -12,40 +12,13 @@ use crate::answer::{NULL, tell};
 use crate::handles::IN_USE;
 use crate::null::is_null;
 use crate::numbers::FaultNumbers;
-use crate::work::verified;
-use std::alloc::{AllocError, Global};
+use std::alloc::Global;
 use x10_cli::{Fault, verified_in};
 use x10_handles::{Handle, Unopened, close, is_open, open_module};
-use x10_verify::Verified;
-
-/// A copy of bytes, which stays to the end of the program.
-fn kept(alloc: Global, bytes: &[u8]) -> Result<&'static [u8], AllocError>
-    ensures { IfOk result (λ copy. copy.now ≡ bytes.now) }
-{
-    let mut copy = Vec::with_capacity(alloc, bytes.len())?;
-    copy.extend_from_slice(bytes)?;
-    Ok(copy.leak())
-}
-
-/// The module of an image, verified, which stays to the end of the program. Of an image that is refused nothing stays.
-fn kept_module(alloc: Global, image: &[u8]) -> Result<&'static Verified<'static>, Fault>
-    ensures found { IfOk result (λ v. IsImageOf image.now v.now) }
-    ensures refused { IfErr result (λ e. status_of e ≡ 1 → IsVerifiedImage image.now → ⊥) }
-    ensures due { IfErr result (IsDue None image.now) }
-{
-    verified(alloc, image)?;
-    let Ok(bytes) = kept(alloc, image) else {
-        return Err(Fault::Memory);
-    };
-    let module = verified_in(alloc, bytes)?;
-    let Ok(module) = Box::new(alloc, module) else {
-        return Err(Fault::Memory);
-    };
-    Ok(Box::leak(module))
-}
 
 /// Verifies an image, and opens a handle of its module. 0: it is open; 1: the image isn't that of a module that the verifier
-/// accepts, and the fault is the one that is due; 2: memory was refused; 8: the handle is open already.
+/// accepts, and the fault is the one that is due; 2: memory was refused; 8: the handle is open already. Where it isn't 0, no
+/// memory stays taken.
 #[unsafe(no_mangle)]
 pub extern "C" fn burjeeg_module_new(
     alloc: Global,
@@ -70,8 +43,8 @@ pub extern "C" fn burjeeg_module_new(
     if is_open(handle) {
         return IN_USE;
     }
-    match kept_module(alloc, image) {
-        Ok(module) => match open_module(alloc, module, handle) {
+    match verified_in(alloc, image) {
+        Ok(module) => match open_module(alloc, module, image, handle) {
             Ok(()) => tell(Ok(()), told),
             Err(Unopened::Memory) => tell(Err(Fault::Memory), told),
             Err(_) => IN_USE,

@@ -2,6 +2,7 @@
 ghost use Rattle.std.specs.Prelude.{◌≡◌, ◌≢◌};
 ghost use Rattle.x10_world.specs.StandsForWorld.{WorldState};
 ghost use Rattle.x10_handles.specs.declared.inside.Inside.TheVariants as behind;
+ghost use Rattle.x10_handles.specs.Histories.{IsRun};
 ghost use Rattle.x10_c.specs.Handles.{IsFlightTo, IsLineOfWorld};
 
 use crate::answer::{SMALL, copy};
@@ -37,10 +38,11 @@ pub fn flight_in(
 ) -> u32
     ensures lacks { result ≡ 7 → (x : WorldState) → inside.now ≡ behind.World x → ⊥ }
     ensures shows { result ≢ 7 → (x : WorldState) × (inside.now ≡ behind.World x)
+        × IsRun x
         × IsFlightTo x.flights number result to.new needed.new buffer.old buffer.new }
 {
     match inside {
-        Inside::World(world) => flight_to(world, number, to, buffer, needed),
+        Inside::World(run) => flight_to(run.world(), number, to, buffer, needed),
         Inside::Module(_) => CLOSED,
         Inside::Place(_) => CLOSED,
     }
@@ -77,10 +79,11 @@ pub fn line_of_world_in(
 ) -> u32
     ensures lacks { result ≡ 7 → (x : WorldState) → inside.now ≡ behind.World x → ⊥ }
     ensures shows { result ≢ 7 → (x : WorldState) × (inside.now ≡ behind.World x)
+        × IsRun x
         × IsLineOfWorld x.places place number result needed.new buffer.old buffer.new }
 {
     match inside {
-        Inside::World(world) => line_at(alloc, world, place, number, buffer, needed),
+        Inside::World(run) => line_at(alloc, run.world(), place, number, buffer, needed),
         Inside::Module(_) => CLOSED,
         Inside::Place(_) => CLOSED,
     }
