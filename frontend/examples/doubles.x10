@@ -1,0 +1,6 @@
+// Doubles 1 ten times.
+def main() {
+  var n: Int = 1;
+  for (i in 1..10) n = n + n;
+  Console.OUT.println(n);
+}
