@@ -110,7 +110,7 @@ class Lowering:
         handlers = self.region().handlers
         text = f"{self.source.name.rpartition('/')[2]}:{it.span.line}: {what}"
         if not self.has_default():
-            raise Fault(it.span, f"`{self.function.name}` gives a {self.function.result}, and here it may have none: {what}",
+            raise Fault(it.span, f"`{self.function.name}` gives {self.function.result.told()}, and here it may have none: {what}",
                         "Put the result into an object of a class, and give that.")
         if text not in handlers:
             handlers[text] = self.label(), it.span
@@ -119,7 +119,7 @@ class Lowering:
     def never(self, it: Expr) -> int:
         """Where an operation would go to that can't fail."""
         if not self.has_default():
-            return self.failing(it, "the way of a failure, which none takes")
+            return self.failing(it, "the instruction has a way for failures")
         return self.region().end
 
     def handle(self, frame: RegionFrame) -> None:
@@ -435,12 +435,10 @@ class Lowering:
         self.put(out, it.span)
 
     def begin_loop(self, it: Stmt, turns: int) -> LoopFrame:
-        slot = sum(isinstance(at, LoopFrame) for at in self.frames)
-        if slot == MOST_LOOPS:
+        if sum(isinstance(at, LoopFrame) for at in self.frames) == MOST_LOOPS:
             raise Fault(it.span, f"the loops nest {MOST_LOOPS + 1} deep", f"At most {MOST_LOOPS}: put the inner ones into a def.")
         frame, self.head = LoopFrame(self.label(), self.label()), self.label()
         self.emit("LOOP", it.span, number=turns)
-        self.code.instrs[-1].slot = slot
         self.frames.append(frame)
         self.put(self.head, it.span)
         return frame
@@ -448,7 +446,6 @@ class Lowering:
     def end_loop(self, it: Stmt, head: int) -> None:
         self.emit("ENDL", it.span, label=head)
         self.frames.pop()
-        self.code.instrs[-1].slot = sum(isinstance(at, LoopFrame) for at in self.frames)
 
     def stmt_loop(self, it: tree.Loop) -> None:
         assert it.variable is not None
@@ -492,9 +489,9 @@ class Lowering:
         self.stmt(it.body)
         self.put(frame.again, it.span)
         self.end_loop(it, head)
-        self.emit("LT", it.span, test, [value, end])
-        self.emit("JZ", it.span, reads=[test], label=frame.done)
-        self.emit("JMP", it.span, label=self.failing(last, f"the loop makes more than {it.bound} turns"))
+        # (behind the last turn the number is at most the end of the range)
+        self.emit("EQ", it.span, test, [value, end])
+        self.emit("JZ", it.span, reads=[test], label=self.failing(last, f"the loop makes more than {it.bound} turns"))
         self.put(frame.done, it.span)
 
     def places_loop(self, it: tree.Loop, value: int) -> None:
@@ -518,8 +515,7 @@ class Lowering:
         self.stmt(it.body)
         self.put(frame.again, it.span)
         self.end_loop(it, head)
-        self.branch(it.condition, frame.done, False)
-        self.emit("JMP", it.span, label=self.failing(it.condition, f"the loop makes more than {it.bound} turns"))
+        self.branch(it.condition, self.failing(it.condition, f"the loop makes more than {it.bound} turns"), True)
         self.put(frame.done, it.span)
 
     def stmt_leave(self, it: tree.Leave) -> None:
@@ -529,7 +525,7 @@ class Lowering:
                 return
             if it.value is not None:
                 if not self.has_default():
-                    raise Fault(it.span, f"a {self.function.result} is returned out of `{self.region().word}`",
+                    raise Fault(it.span, f"{self.function.result.told()} is returned out of `{self.region().word}`",
                                 "Put it into an object of a class, or return it behind the end.")
                 self.value(it.value, self.result_value())
             self.go(NONE, 0, it.span)

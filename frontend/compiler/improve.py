@@ -24,8 +24,7 @@ def drop_unreached(code: Code) -> bool:
             if to not in reached:
                 reached.add(to)
                 waiting.append(to)
-    # (an end is kept where its beginning is: nesting goes by the text)
-    kept = [it for at, it in enumerate(code.instrs) if at in reached or it.op in ("ENDL", "FINE", "ATOME") and is_open(code, at, reached)]
+    kept = [it for at, it in enumerate(code.instrs) if at in reached and not is_single_turn(code, at, reached)]
     named = {it.label for it in kept if it.op in JUMPS}
     final = []
     for at, it in enumerate(kept):
@@ -37,17 +36,14 @@ def drop_unreached(code: Code) -> bool:
     return changed
 
 
-def is_open(code: Code, at: int, reached: set[int]) -> bool:
-    """Whether the beginning of the region that ends at an instruction is reached."""
+def is_single_turn(code: Code, at: int, reached: set[int]) -> bool:
+    """Whether an instruction begins a loop whose end isn't reached: then it is no loop."""
     depth = 0
-    for before in range(at - 1, -1, -1):
-        op = code.instrs[before].op
-        if op in ("ENDL", "FINE", "ATOME"):
-            depth += 1
-        elif op in ("LOOP", "FINB", "ATOMB"):
-            if depth == 0:
-                return before in reached
-            depth -= 1
+    for to in range(at, len(code.instrs) if code.instrs[at].op == "LOOP" else at):
+        op = code.instrs[to].op
+        depth += (op == "LOOP") - (op == "ENDL")
+        if depth == 0:
+            return to not in reached
     return False
 
 
@@ -61,17 +57,15 @@ def labels_behind(instrs: list[Instr], at: int) -> set[int]:
 
 
 def thread_jumps(code: Code) -> None:
-    """A jump to a JMP goes where that goes."""
+    """Of labels that stand in one place the last one is used, and a jump to a JMP goes where that goes."""
     targets: dict[int, int] = {}
-    for at, it in enumerate(code.instrs):
-        behind = [label for label in labels_behind(code.instrs, at - 1)] if it.op == "LABEL" else []
-        follower = next((other for other in code.instrs[at:] if other.op != "LABEL"), None) if behind else None
-        if follower is not None and follower.op == "JMP":
+    for at, it in enumerate(code.instrs[:-1]):
+        follower = code.instrs[at + 1]
+        if it.op == "LABEL" and follower.op in ("LABEL", "JMP"):
             targets[it.label] = follower.label
     for it in code.instrs:
-        if it.op in JUMPS and it.op != "ENDL":
-            while it.label in targets and targets[it.label] != it.label:
-                it.label = targets[it.label]
+        while it.op in JUMPS and it.op != "ENDL" and it.label in targets:
+            it.label = targets[it.label]
 
 
 def clean(code: Code) -> None:

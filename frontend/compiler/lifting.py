@@ -47,6 +47,8 @@ def is_early(it: Expr, is_here: bool) -> bool:
     if isinstance(it, tree.Unary):
         return it.op == "-" and is_early(it.of, is_here)
     if isinstance(it, tree.Property):
+        if it.op == "PLACEN":
+            return isinstance(it.of, tree.Literal)
         return it.op in ("PLACEI", "NEXTP", "HOME", "COUNT") and (it.of is None or is_early(it.of, is_here))
     return isinstance(it, tree.Literal) or isinstance(it, tree.Local) and not it.variable.is_var
 
@@ -124,7 +126,7 @@ class Lifter:
         for use in locals_in(it):
             variable = use.variable
             if variable.is_var and variable not in inside:
-                raise Fault(use.span, f"`{variable.name}` is a var, and the body of `{word}` copies vals alone",
+                raise Fault(use.span, f"`{variable.name}` is a var, and `{word}` captures vals alone",
                             f"Copy it before: `val {variable.name}1 = {variable.name};`. What the body changes is the field of an object.")
 
 

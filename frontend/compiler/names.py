@@ -38,9 +38,11 @@ def computed(op: str, a: Constant, b: Constant) -> Constant:
     if op in ("/", "%"):
         whole = quotient(a, b) if b else 0
         return None if b == 0 else whole if op == "/" else wrapped(a - whole * b)
-    return {"+": lambda: wrapped(a + b), "-": lambda: wrapped(a - b), "*": lambda: wrapped(a * b), "<": lambda: a < b,
-            ">": lambda: a > b, "<=": lambda: a <= b, ">=": lambda: a >= b, "==": lambda: a == b, "!=": lambda: a != b,
-            "&&": lambda: bool(a and b), "||": lambda: bool(a or b)}[op]()
+    numbers = {"+": a + b, "-": a - b, "*": a * b}
+    if op in numbers:
+        return wrapped(numbers[op])
+    truths = {"<": a < b, ">": a > b, "<=": a <= b, ">=": a >= b, "==": a == b, "!=": a != b, "&&": bool(a and b), "||": bool(a or b)}
+    return truths[op]
 
 
 def typed(it: Expr, type_: Type) -> Expr:
@@ -77,7 +79,9 @@ class Checker:
         self.statics: dict[tuple[str, str], tree.Static] = {}
         self.open_statics: list[tree.Static] = []
         self.scopes: list[dict[str, tree.Variable]] = []
+        # the variables that are read somewhere, and those that `val` or `var` declares
         self.used: set[tree.Variable] = set()
+        self.declared: set[tree.Variable] = set()
         self.class_name = ""
         self.function: Optional[tree.Function] = None
         # of the innermost body of a def, at or async: how many loops are open, and which word it belongs to
@@ -151,7 +155,7 @@ class Checker:
             self.declare(variable)
         it.body = self.stmt(it.body)
         if it.result != VOID and completes(it.body):
-            raise Fault(it.span, f"`{it.name}` can end without a result", f"Put `return ..;` at its end: it gives a {it.result}.")
+            raise Fault(it.span, f"`{it.name}` can end without a result", f"Put `return ..;` at its end: it gives {it.result.told()}.")
 
     def type_of(self, it: tree.TypeName) -> Type:
         if it.argument and it.name == "GlobalRef" and it.argument in self.classes:
@@ -211,7 +215,7 @@ class Checker:
         return made
 
     def refuse_type(self, it: Expr, type_: Type, what: str) -> NoReturn:
-        repair = f"Give it a {type_}."
+        repair = f"Give it {type_.told()}."
         if type_ == STRING and it.type == INT:
             repair = "Nothing turns a number into a text: print them in two lines."
         elif type_ == BOOLEAN and it.type == INT:
@@ -220,8 +224,8 @@ class Checker:
             repair = "Open the reference by `()`, at its home."
         elif it.type == PLACES:
             repair = "Places.places() is for loops: `for (p in Place.places()) ..`."
-        told = "no value" if it.type == VOID else "null" if it.type == NULL else f"a {it.type}"
-        raise Fault(it.span, f"{what} is a {type_}, and this is {told}", repair)
+        told = "no value" if it.type == VOID else "null" if it.type == NULL else f"{it.type.told()}"
+        raise Fault(it.span, f"{what} is {type_.told()}, and this is {told}", repair)
 
     def expr_literal(self, it: tree.Literal) -> Expr:
         if isinstance(it.value, int) and not isinstance(it.value, bool) and it.value >= 2**63:
@@ -279,7 +283,7 @@ class Checker:
         if of.type.name != "class":
             if of.type.name == "GlobalRef":
                 raise Fault(it.name_span, f"a GlobalRef has no `{it.name}`", "It has `home`; its object is `g()`, at its home.")
-            raise Fault(it.name_span, f"a {of.type} has no `{it.name}`", "Place has id and next(), Rail size, String length().")
+            raise Fault(it.name_span, f"{of.type.told()} has no `{it.name}`", "Place has id and next(), Rail size, String length().")
         fields = {field.name: field for field in self.classes[of.type.of].fields}
         if it.name not in fields:
             raise Fault(it.name_span, f"`{of.type}` has no field `{it.name}`", near(it.name, fields, f"It has {', '.join(fields) or 'none'}."))
@@ -324,7 +328,7 @@ class Checker:
         if of.type.name == "GlobalRef":
             self.count(it, 0, "opening a reference")
             return typed(tree.Property(it.span, "GOPEN", of), Type("class", of.type.of))
-        raise Fault(it.span, f"a {of.type} is followed by `(..)`", "A rail has an index and a GlobalRef is opened so; "
+        raise Fault(it.span, f"{of.type.told()} is followed by `(..)`", "A rail has an index and a GlobalRef is opened so; "
                     "a def is called by its name.")
 
     def count(self, it: tree.Apply, wanted: int, what: str) -> None:
@@ -375,9 +379,9 @@ class Checker:
     def expr_makeref(self, it: tree.MakeRef) -> Expr:
         it.of = self.expr(it.of)
         if it.of.type.name != "class":
-            raise Fault(it.of.span, f"a GlobalRef names an object, and this is a {it.of.type}", "Put the value into an object of a class.")
+            raise Fault(it.of.span, f"a GlobalRef names an object, and this is {it.of.type.told()}", "Put the value into an object of a class.")
         if it.class_name and it.class_name != it.of.type.of:
-            raise Fault(it.span, f"this is a GlobalRef[{it.class_name}] of a {it.of.type}", f"Write `GlobalRef[{it.of.type}](..)`.")
+            raise Fault(it.span, f"this is a GlobalRef[{it.class_name}] of {it.of.type.told()}", f"Write `GlobalRef[{it.of.type}](..)`.")
         return typed(it, Type("GlobalRef", it.of.type.of))
 
     def expr_atvalue(self, it: tree.AtValue) -> Expr:
@@ -423,7 +427,7 @@ class Checker:
             if names == {"class", "null"} or names == {"null"} or (left.type == right.type and left.type in (INT, BOOLEAN, PLACE)):
                 return
             if left.type != right.type:
-                raise Fault(it.span, f"a {left.type} and a {right.type} are compared", "Compare values of one type.")
+                raise Fault(it.span, f"{left.type.told()} and {right.type.told()} are compared", "Compare values of one type.")
             raise Fault(it.span, f"nothing compares two values of the type {left.type}", "Compare a number that tells them apart, "
                         "such as a field." if left.type.name == "class" else "Compare `.home`." if left.type.name == "GlobalRef" else
                         "Compare their lengths, or a number that goes with them.")
@@ -465,6 +469,7 @@ class Checker:
         constant = it.value.value if isinstance(it.value, tree.Literal) and not it.is_var else None
         it.variable = tree.Variable(it.name, it.value.type, it.is_var, it.span, constant)
         self.declare(it.variable)
+        self.declared.add(it.variable)
         return it
 
     def stmt_assign(self, it: tree.Assign) -> Stmt:
@@ -472,8 +477,7 @@ class Checker:
             variable = self.found(it.target.name)
             if variable is not None and not variable.is_var:
                 raise Fault(it.target.span, f"`{variable.name}` is a val, and gets a second value", "Declare it by `var`."
-                            if variable not in (self.function.variables if self.function else []) else
-                            f"Copy the parameter: `var {variable.name}1 = {variable.name};`.")
+                            if variable in self.declared else f"Copy it: `var {variable.name}1 = {variable.name};`.")
         it.target = self.expr(it.target)
         if isinstance(it.target, tree.FieldOf) and not it.target.field.is_var:
             raise Fault(it.target.span, f"the field `{it.target.field.name}` is a val", "Declare it by `var` in its class.")
@@ -504,7 +508,7 @@ class Checker:
             raise Fault(it.span, "println has more than one argument", "Print each in a line of its own.")
         of = self.expr(it.arguments[0]) if it.arguments else literal(it.span, "", STRING)
         if of.type not in (INT, STRING, BOOLEAN):
-            raise Fault(of.span, f"a {of.type} can't be printed", "Print its `id`." if of.type == PLACE else "Print a number, a truth value or a text.")
+            raise Fault(of.span, f"{of.type.told()} can't be printed", "Print its `id`." if of.type == PLACE else "Print a number, a truth value or a text.")
         return tree.Print(it.span, of)
 
     def stmt_if(self, it: tree.If) -> Stmt:
@@ -566,7 +570,7 @@ class Checker:
         assert self.function is not None
         result = self.function.result
         if it.value is None and result != VOID:
-            raise Fault(it.span, f"`{self.function.name}` gives a {result}, and this is none", "Write `return ..;` with a value.")
+            raise Fault(it.span, f"`{self.function.name}` gives {result.told()}, and this is none", "Write `return ..;` with a value.")
         if it.value is not None:
             if result == VOID:
                 raise Fault(it.value.span, f"`{self.function.name}` has no result", f"Write the type behind its parameters: `def {self.function.name}(..): Int`.")

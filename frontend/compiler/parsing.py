@@ -63,15 +63,17 @@ class Builder(Transformer):  # type: ignore[type-arg]
             raise Fault(it.span, f"`{it.name}` is a variable outside of classes and defs",
                         "Write `static val NAME = VALUE;` for a constant, or make it a field of an object.")
         it.class_name = class_name
-        (program.functions if isinstance(it, tree.Function) else program.statics).append(it)
+        if isinstance(it, tree.Function):
+            program.functions.append(it)
+        else:
+            program.statics.append(it)
 
     def class_decl(self, meta: Meta, *parts: Any) -> Any:
         parts = tuple(it for it in parts if getattr(it, "type", "") != "MODIFIER")
         name, properties, *members = parts
-        is_field = lambda it: isinstance(it, tree.Field)
-        fields = [*(properties or []), *filter(is_field, members)]
+        fields = [*(properties or []), *(it for it in members if isinstance(it, tree.Field))]
         made = tree.Class(str(name), fields, span_of(name))
-        return made, [it for it in members if not is_field(it)]
+        return made, [it for it in members if not isinstance(it, tree.Field)]
 
     def properties(self, meta: Meta, *parameters: Optional[tree.Parameter]) -> list[tree.Field]:
         return [tree.Field(it.name, it.type_name, False, None, it.span) for it in parameters if it]
@@ -227,7 +229,8 @@ def behind_last_word(source: Source, before: int) -> Span:
 
 def spelling_fault(source: Source, wrong: UnexpectedInput) -> Fault:
     if isinstance(wrong, UnexpectedCharacters):
-        span = Span(wrong.pos_in_stream, wrong.pos_in_stream + 1, wrong.line, wrong.column)
+        at = wrong.pos_in_stream or 0
+        span = Span(at, at + 1, wrong.line, wrong.column)
         if source.text[span.start] == '"':
             return Fault(span, "the text has no closing quote", 'A text is closed by `"` in its line; a line feed in it is \\n.')
         return Fault(span, f"`{source.text[span.start]}` doesn't belong here", "Take it out.")
@@ -237,8 +240,10 @@ def spelling_fault(source: Source, wrong: UnexpectedInput) -> Fault:
         return Fault(behind_last_word(source, len(source.text)), "the source ends too early",
                      "Close what is open: a `}` is missing." if "RBRACE" in expected else "The last statement isn't complete.")
     span = span_of(wrong.token)
-    if "NAME" in expected and wrong.token.isidentifier():
+    if "NAME" in expected and len(expected) < 3 and wrong.token.isidentifier():
         return Fault(span, f"`{wrong.token}` is a word of X10, and no name", "Take another name.")
+    if "SEMICOLON" in expected and wrong.token.type in ("SIGN", "FACTOR", "RELATION", "EQUALITY", "AND", "OR") and "ASSIGN" in expected:
+        return Fault(span, "a statement is no value", "A statement is a call, an assignment, a declaration or begins with a word.")
     if "SEMICOLON" in expected:
         return Fault(behind_last_word(source, span.start), "a `;` is missing", f"Write `;` before `{wrong.token}`.")
     names = [TOLD[it] for it in TOLD if it in expected]

@@ -110,7 +110,7 @@ class Writer:
         if count > MOST_INSTRUCTIONS:
             raise Fault(function.span, f"`{function.name}` has {count} instructions", f"At most {MOST_INSTRUCTIONS}: put a part into a def.")
         self.out.bounds.append(self.bound(code))
-        slots = max([it.slot + 1 for it in code.instrs if it.op == "LOOP"], default=0)
+        slots = self.number_loops(code)
         kinds = [self.kind(function.result, function, NONE), *(self.kind(it.type, function, at) for at, it in enumerate(function.variables))]
         width = max([1, len(function.variables), *(it + 1 for it in registers.values())])
         to.add(f"; {self.numbers[function]}, line {function.span.line}: {function.full_name()}")
@@ -119,6 +119,16 @@ class Writer:
         for it in code.instrs:
             to.add(f"{labels[it.label]}:" if it.op == "LABEL" else "  " + self.instruction(it, registers, labels), it.span)
         to.add("end", function.span)
+
+    def number_loops(self, code: Code) -> int:
+        """Gives each loop its slot, which is its depth, and returns how many there are."""
+        depth = most = 0
+        for it in code.instrs:
+            depth -= it.op == "ENDL"
+            it.slot = depth
+            depth += it.op == "LOOP"
+            most = max(most, depth)
+        return most
 
     def label_names(self, code: Code) -> dict[int, str]:
         """Labels that stand in one place have one name."""

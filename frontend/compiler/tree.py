@@ -19,6 +19,10 @@ class Type:
     def __str__(self) -> str:
         return self.of if self.name == "class" else f"{self.name}[{self.of}]" if self.of else self.name
 
+    def told(self) -> str:
+        """With its article."""
+        return f"an {self}" if str(self)[0] in "AEIOUaeiou" else f"a {self}"
+
 
 INT, BOOLEAN, STRING, PLACE = Type("Int"), Type("Boolean"), Type("String"), Type("Place")
 RAIL, NULL, VOID, PLACES = Type("Rail", "Byte"), Type("null"), Type("void"), Type("Place.places()")

@@ -1,4 +1,7 @@
 // One def serves all places: at home it opens the reference, elsewhere it says that it can't.
+// $ run
+// 0: 7
+// 1: the object is elsewhere
 class Box { var n: Int; }
 def show(g: GlobalRef[Box]) {
   if (here == g.home) Console.OUT.println(g().n);

@@ -1,4 +1,7 @@
 // A def calls others, but never itself.
+// $ run
+// 0: 25
+// 0: 256
 def square(n: Int): Int = n * n;
 def sumOfSquares(a: Int, b: Int): Int = square(a) + square(b);
 def show(n: Int) { Console.OUT.println(n); }

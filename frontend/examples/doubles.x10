@@ -1,4 +1,6 @@
 // Doubles 1 ten times.
+// $ run
+// 0: 1024
 def main() {
   var n: Int = 1;
   for (i in 1..10) n = n + n;

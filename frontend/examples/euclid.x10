@@ -1,4 +1,7 @@
 // The greatest common divisor. No two numbers need more than 92 turns.
+// $ run
+// 0: 21
+// 0: 1
 def divisor(a: Int, b: Int): Int {
   var x: Int = a;
   var y: Int = b;

@@ -1,4 +1,13 @@
 // Eight activities, two at each of four places, put their results into bytes of their own at place 0.
+// $ run --places 4
+// 0: 0
+// 0: 1
+// 0: 4
+// 0: 9
+// 0: 0
+// 0: 5
+// 0: 12
+// 0: 21
 class Results { val bytes: Rail[Byte]; }
 def put(to: GlobalRef[Results], i: Int, value: Int) { to().bytes(i) = value; }
 def work(to: GlobalRef[Results], i: Int) {

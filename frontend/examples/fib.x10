@@ -1,4 +1,6 @@
 // Fibonacci's numbers by activities: only they recur. Each puts its number into an object.
+// $ run
+// 0: 55
 class Box { var value: Int = 0; }
 def fib(n: Int, to: Box) {
   if (n < 2) {

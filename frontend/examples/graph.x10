@@ -1,4 +1,7 @@
 // A cyclic graph is copied as it is: what is shared stays shared, and what place 1 changes is its own.
+// $ run
+// 0: 1
+// 1: 50
 class Number { var value: Int; }
 class Node { var number: Number; var other: Node; }
 def walk(node: Node) {

@@ -1,4 +1,15 @@
 // A linked list, turned round in place.
+// $ run
+// 0: 5
+// 0: 4
+// 0: 3
+// 0: 2
+// 0: 1
+// 0: 1
+// 0: 2
+// 0: 3
+// 0: 4
+// 0: 5
 class Node { val value: Int; var next: Node; }
 def show(list: Node) {
   var node: Node = list;

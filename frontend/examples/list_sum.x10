@@ -1,4 +1,6 @@
 // Exercise 5: the sum of a list.
+// $ run
+// 0: 15
 class Node { val value: Int; val next: Node; }
 def sum(list: Node): Int {
   var node: Node = list;

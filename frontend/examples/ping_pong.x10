@@ -1,4 +1,11 @@
 // Main goes to place 1 and back, three times.
+// $ run
+// 0: 1
+// 0: 3
+// 0: 5
+// 1: 2
+// 1: 4
+// 1: 6
 def pong(n: Int): Int {
   Console.OUT.println(n);
   return n + 1;

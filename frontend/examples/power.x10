@@ -1,4 +1,8 @@
 // Exercise 4: a to the power n, for n from 0 to 63.
+// $ run
+// 0: 81
+// 0: 1024
+// 0: 1
 def power(a: Int, n: Int): Int {
   var product: Int = 1;
   for (i in 1..n) @bound(63) product *= a;

@@ -1,4 +1,6 @@
 // Exercise 13: the region is where the counter is, around what reads it and what writes it.
+// $ run
+// 0: 10
 class Counter { var n: Int; }
 def add(c: GlobalRef[Counter]) {
   val counter = c();

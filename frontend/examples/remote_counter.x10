@@ -1,17 +1,15 @@
-// A counter at place 0 that a client at place 1 counts up.
+// A counter at place 0 that a client at place 1 counts up. The reference is opened at its home alone.
+// $ run
+// 0: 3
+// 1: 1
+// 1: 2
+// 1: 3
 class Counter { var n: Int; }
-def next(c: GlobalRef[Counter]): Int {
-  if (here == c.home) {
-    val counter = c();
-    counter.n = counter.n + 1;
-    return counter.n;
-  }
-  return at (c.home) counted(c);
-}
 def counted(c: GlobalRef[Counter]): Int {
   val counter = c();
-  counter.n = counter.n + 1;
-  return counter.n;
+  val n = counter.n + 1;
+  counter.n = n;
+  return n;
 }
 def client(c: GlobalRef[Counter]) {
   for (i in 1..3) Console.OUT.println(at (c.home) counted(c));

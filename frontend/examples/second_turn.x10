@@ -1,4 +1,7 @@
 // A list of references: each turn asks about its own one.
+// $ run
+// 0: 3
+// 1: 4
 class Box { var n: Int; }
 class Item { val ref: GlobalRef[Box]; val next: Item; }
 def made(n: Int): GlobalRef[Box] = GlobalRef(new Box(n));

@@ -1,4 +1,10 @@
 // Each of four places sums its own part of the numbers from 1 to 400.
+// $ run --places 4
+// 0: 5050
+// 0: 15050
+// 0: 25050
+// 0: 35050
+// 0: 80200
 def part(): Int {
   var n: Int = here.id * 100;
   var sum: Int = 0;

@@ -1,4 +1,10 @@
 // What has to change together is changed in one atomic region, and read in one.
+// $ run
+// 0: 100
+// 0: 100
+// 0: 100
+// 0: 10
+// 0: 90
 class Accounts { var first: Int; var second: Int; }
 def move(a: Accounts) {
   for (i in 1..5) atomic {

@@ -1,0 +1,7 @@
+// A number of more than 64 bits.
+// $ refused 6:23
+// the number is too large
+// An Int has 64 bits: at most 9223372036854775807.
+def main() {
+  Console.OUT.println(9223372036854775808);
+}

@@ -1,0 +1,6 @@
+// Too few arguments.
+// $ refused 6:14
+// `show` has 2 parameters, and 1 arguments are given
+// It is `def show(n: Int, s: String)`.
+def show(n: Int, s: String) {}
+def main() { show(1); }

@@ -1,0 +1,74 @@
+"""Random programs, and damaged sources."""
+
+from __future__ import annotations
+
+import os
+import random
+import re
+import unittest
+
+from compiler.messages import Fault, Source
+from compiler.text import Text
+from fuzzing import random_program
+from interpreter import interpreted
+from support import TOP, Runs, text_of
+
+COUNT, SEED = int(os.environ.get("X10C_FUZZ", "100")), int(os.environ.get("X10C_SEED", "1"))
+PLACES = 3
+WORD = re.compile(r"//[^\n]*|\"(?:\\.|[^\"\\\n])*\"|\w+|\s+|.", re.DOTALL)
+
+
+class Random(unittest.TestCase):
+    maxDiff = None
+
+    def check(self, seed: int) -> None:
+        """The program is accepted, and prints what the interpreter prints."""
+        source = random_program(seed)
+        wanted = interpreted(Source("random.x10", source), PLACES)
+        with Runs(text_of("random.x10", source)) as ran:
+            if wanted is None:
+                self.assertIsNone(ran.refusal())
+                return
+            for order in ([], ["--seed", str(seed)]):
+                status, lines, told = ran.run("--places", str(PLACES), *order)
+                self.assertEqual((0, "\n".join(wanted).splitlines()), (status, lines), told)
+
+
+class Damaged(unittest.TestCase):
+    def check(self, seed: int) -> None:
+        """A damaged source is refused by a line, or it is a program that the verifier accepts."""
+        choice = random.Random(seed)
+        path = choice.choice(sorted([*TOP.glob("tests/programs/**/*.x10"), *TOP.glob("examples/*.x10")]))
+        source = damaged(path.read_text(encoding="utf-8"), choice)
+        try:
+            text: Text = text_of("damaged.x10", source)
+        except Fault as fault:
+            self.assertRegex(fault.told(Source("damaged.x10", source)), r"^damaged.x10:\d+:\d+: .+\n.*\n *\s*\^+\n.+\n$")
+            return
+        with Runs(text) as ran:
+            self.assertIsNone(ran.refusal(), source)
+
+
+def damaged(source: str, choice: random.Random) -> str:
+    """A source with one to three words taken out, doubled, exchanged or replaced."""
+    words = WORD.findall(source)
+    for _ in range(choice.randint(1, 3)):
+        at, other = choice.randrange(len(words)), choice.randrange(len(words))
+        how = choice.randrange(5)
+        if how == 0:
+            words[at] = ""
+        elif how == 1:
+            words[at] *= 2
+        elif how == 2:
+            words[at], words[other] = words[other], words[at]
+        elif how == 3:
+            words[at] = words[other]
+        else:
+            words[at] = choice.choice(["null", "here", "0", "-", "(", ")", "{", "}", ";", "\"", "@", "at", "async", "var", "return", "65536", "é"])
+    return "".join(words)
+
+
+for number in range(SEED, SEED + COUNT):
+    setattr(Random, f"test_{number}", lambda self, seed=number: self.check(seed))
+for number in range(SEED, SEED + 5 * COUNT):
+    setattr(Damaged, f"test_{number}", lambda self, seed=number: self.check(seed))
