@@ -101,7 +101,8 @@ def check_command(words: argparse.Namespace, rest: list[str]) -> int:
     with tempfile.TemporaryDirectory() as folder:
         name = f"{folder}/{Path(words.file).stem}.asm"
         write(text, name)
-        ran = subprocess.run([program(), "check", name, "--json"], stdout=subprocess.PIPE, stderr=subprocess.PIPE, encoding="utf-8")
+        ran = subprocess.run([program(), "check", name, "--json"], stdout=subprocess.PIPE, stderr=subprocess.PIPE,
+                             encoding="utf-8")
     try:
         told = json.loads(ran.stdout)
     except ValueError:

@@ -46,4 +46,5 @@ def compiled(source: Source) -> Text:
             improved(code)
         return Writer(source, program, codes, main, facts).written()
     except RecursionError:
-        raise Fault(Span(0, 1, 1, 1), "the program nests too deeply", "Split long expressions, and put inner statements into a def.") from None
+        raise Fault(Span(0, 1, 1, 1), "the program nests too deeply",
+                    "Split long expressions, and put inner statements into a def.") from None

@@ -1,6 +1,6 @@
-"""What is known of values before each instruction, as the verifier will know it: which are objects and not null, which places are the
-same, and which numbers aren't 0. From it follow the kinds of parameters, results and fields: each is an object, or a reference whose
-home is here, as long as no call, return or assignment gives it anything else."""
+"""What is known of values before each instruction, as the verifier will know it: which are objects and not null, which places
+are the same, and which numbers aren't 0. From it follow the kinds of parameters, results and fields: each is an object, or a
+reference whose home is here, as long as no call, return or assignment gives it anything else."""
 
 from __future__ import annotations
 
@@ -67,8 +67,8 @@ class State:
 
 @dataclass
 class Facts:
-    """What isn't always an object, or always has its home here: the parameter of a function (its number), its result (NONE), or the
-    field of a class; each with where that comes from."""
+    """What isn't always an object, or hasn't always its home here: the parameter of a function (its number), its result (NONE),
+    or the field of a class; each with where that comes from."""
 
     maybe_null: dict[tuple[object, int], Span] = field(default_factory=dict)
     maybe_away: dict[tuple[object, int], Span] = field(default_factory=dict)
@@ -191,7 +191,8 @@ class Flow:
     def null_fault(self, it: Instr, source: Source) -> Fault:
         words = source.of(it.of)
         why = self.origin(it.reads[0], self.facts.maybe_null, "null, or what may be null")
-        return Fault(it.of, f"`{words}` may be null here{why}", f"Ask before it: `if ({words} != null) ..`." if words.isidentifier()
+        return Fault(it.of, f"`{words}` may be null here{why}",
+                     f"Ask before it: `if ({words} != null) ..`." if words.isidentifier()
                      else f"Put it into a val and ask: `val o = {words}; if (o != null) ..`.")
 
     def away_fault(self, it: Instr, source: Source) -> Fault:

@@ -1,5 +1,5 @@
-"""Makes the instructions of a function fewer: takes out what isn't reached or used, and computes what doesn't change before loops and
-only once."""
+"""Makes the instructions of a function fewer: takes out what isn't reached or used, and computes what doesn't change before loops
+and only once."""
 
 from __future__ import annotations
 

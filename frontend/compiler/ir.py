@@ -8,9 +8,9 @@ from typing import Iterable, Iterator
 from .messages import Span
 from .tree import Class, Function, Type
 
-# Of each operation its operands in the order of the text: d what it writes (z: 0 where that is nothing), 0 to 2 what it reads, r the
-# same (0 where that is nothing), A the first of its arguments, n a number, k an int, t a text, c a class, f a function, s a loop
-# slot, L a label. The arguments are the last ones that it reads.
+# Of each operation its operands in the order of the text: d what it writes (z: 0 where that is nothing), 0 to 2 what it reads,
+# r the same (0 where that is nothing), A the first of its arguments, n a number, k an int, t a text, c a class, f a function,
+# s a loop slot, L a label. The arguments are the last ones that it reads.
 FORMS = {
     "INTK": "dk", "TEXTK": "dt", "MOVE": "d0", "ADD": "d01", "SUB": "d01", "MUL": "d01", "DIV": "d01L", "REM": "d01L",
     "LT": "d01", "EQ": "d01", "JMP": "L", "JZ": "0L", "LOOP": "sn", "ENDL": "sL", "CALL": "zAf", "RET": "r",

@@ -1,5 +1,5 @@
-"""Makes a function of each body of an at or async (lambda lifting): its parameters are the variables that the body captures. Where
-the body is a call whose arguments can be computed before, there is no function: the called one is started at once."""
+"""Makes a function of each body of an at or async (lambda lifting): its parameters are the variables that the body captures.
+Where the body is a call whose arguments can be computed before, there is no function: the called one is started at once."""
 
 from __future__ import annotations
 
@@ -7,7 +7,7 @@ from typing import Iterator, Optional, Union
 
 from . import tree
 from .messages import Fault, Span
-from .names import MOST_PARAMETERS
+from .expressions import MOST_PARAMETERS
 from .tree import VOID, Expr, Function, Stmt, Type
 
 Part = Union[Expr, Stmt]
@@ -74,11 +74,12 @@ class Lifter:
             self.visit_async(it)
         elif isinstance(it, tree.At):
             self.visit(it.place)
-            it.call = self.going("at", it.body, it.span)
+            body = single(it.body)
+            it.is_spawn = isinstance(body, tree.Async)
+            it.call = self.going("at", body.body if isinstance(body, tree.Async) else body, it.span)
         elif isinstance(it, tree.AtValue):
             self.visit(it.place)
-            body = tree.Leave(it.value.span, "return", it.value)
-            it.call = self.going("at", body, it.span, it.type)
+            it.call = self.going("at", tree.Leave(it.value.span, "return", it.value), it.span, it.type)
         else:
             for part in parts(it):
                 self.visit(part)
@@ -127,7 +128,8 @@ class Lifter:
             variable = use.variable
             if variable.is_var and variable not in inside:
                 raise Fault(use.span, f"`{variable.name}` is a var, and `{word}` captures vals alone",
-                            f"Copy it before: `val {variable.name}1 = {variable.name};`. What the body changes is the field of an object.")
+                            f"Copy it before: `val {variable.name}1 = {variable.name};`. What the body changes is a field of "
+                            "an object.")
 
 
 def lift_all(program: tree.Program) -> list[Function]:

@@ -242,15 +242,18 @@ def spelling_fault(source: Source, wrong: UnexpectedInput) -> Fault:
     span = span_of(wrong.token)
     if "NAME" in expected and len(expected) < 3 and wrong.token.isidentifier():
         return Fault(span, f"`{wrong.token}` is a word of X10, and no name", "Take another name.")
-    if "SEMICOLON" in expected and wrong.token.type in ("SIGN", "FACTOR", "RELATION", "EQUALITY", "AND", "OR") and "ASSIGN" in expected:
-        return Fault(span, "a statement is no value", "A statement is a call, an assignment, a declaration or begins with a word.")
+    if "SEMICOLON" in expected and wrong.token.type in ("SIGN", "FACTOR", "RELATION", "EQUALITY", "AND",
+                                                        "OR") and "ASSIGN" in expected:
+        return Fault(span, "a statement is no value",
+                     "A statement is a call, an assignment, a declaration or begins with a word.")
     if "SEMICOLON" in expected:
         return Fault(behind_last_word(source, span.start), "a `;` is missing", f"Write `;` before `{wrong.token}`.")
     names = [TOLD[it] for it in TOLD if it in expected]
     told = " or ".join(f"`{it}`" for it in names)
     if "NAME" in expected and len(names) < 2:
         told = "a name" if "NUMBER" not in expected else "a value"
-    return Fault(span, f"`{wrong.token}` doesn't belong here", f"Write {told or 'something else'} in front of it, or take it out.")
+    return Fault(span, f"`{wrong.token}` doesn't belong here",
+                 f"Write {told or 'something else'} in front of it, or take it out.")
 
 
 def parse(source: Source) -> tree.Program:

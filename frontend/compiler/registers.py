@@ -1,5 +1,5 @@
-"""Gives each value a register, by a linear scan over the intervals in which values are alive. The arguments of an instruction have to
-stand in consecutive registers: such values form a group, which is placed as one; where they can't, copies are passed."""
+"""Gives each value a register, by a linear scan over the intervals in which values are alive. The arguments of an instruction
+have to stand in consecutive registers: such values form a group, which is placed as one; where they can't, copies are passed."""
 
 from __future__ import annotations
 
@@ -39,7 +39,7 @@ def overlap(a: Interval, b: Interval) -> bool:
 
 @dataclass(eq=False)
 class Group:
-    """Values that stand in consecutive registers, each with how far it is from the first one; `is_fixed` where that is register 0."""
+    """Values in consecutive registers, each with how far it is from the first one; `is_fixed` where that is register 0."""
 
     members: dict[int, int] = field(default_factory=dict)
     is_fixed: bool = False
@@ -78,7 +78,8 @@ class Groups:
 
 
 def grouped(code: Code) -> Groups:
-    """Forms the groups. Where arguments can't stand in a row, each that isn't made for this instruction alone is copied; then again."""
+    """Forms the groups. Where arguments can't stand in a row, those that aren't made for this instruction alone are copied, and
+    the groups formed again."""
     while True:
         alive = intervals(code)
         groups, written = Groups(code, alive), code.definitions()
@@ -91,7 +92,8 @@ def grouped(code: Code) -> Groups:
             row = it.arguments()
             if all(groups.link(left, right) for left, right in zip(row, row[1:])):
                 continue
-            lasting = [place for place, value in enumerate(row) if uses[value] > 1 or len(written[value]) > 1 or -1 in written[value]
+            lasting = [place for place,
+                       value in enumerate(row) if uses[value] > 1 or len(written[value]) > 1 or -1 in written[value]
                        or loop_between(code, written[value][0], at)]
             copies += [(at, place) for place in lasting or range(len(row))]
         if not copies:

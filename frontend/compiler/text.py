@@ -46,7 +46,8 @@ def in_order(codes: list[Code]) -> list[Code]:
             if it.op in ("CALL", "AT") and isinstance(it.number, Function):
                 if it.number in open_:
                     names = [other.name for other in open_[open_.index(it.number):]] + [it.number.name]
-                    raise Fault(it.span, f"`{it.number.name}` calls itself" if len(names) == 2 else f"this leads back: {' -> '.join(names)}",
+                    cause = f"`{it.number.name}` calls itself" if len(names) == 2 else f"this leads back: {' -> '.join(names)}"
+                    raise Fault(it.span, cause,
                                 "Begin it by `async` in a `finish`, with an object for the result: only activities recur.")
                 visit(by_function[it.number])
         open_.pop()
@@ -69,7 +70,8 @@ class Writer:
 
     def written(self) -> Text:
         if len(self.codes) > MOST_FUNCTIONS:
-            raise Fault(self.codes[-1].function.span, f"the program has {len(self.codes)} functions, with the bodies of at and async",
+            raise Fault(self.codes[-1].function.span,
+                        f"the program has {len(self.codes)} functions, with the bodies of at and async",
                         f"At most {MOST_FUNCTIONS}: let several have one def.")
         bodies = Text()
         for code in self.codes:
@@ -95,7 +97,8 @@ class Writer:
 
     def kind(self, type_: Type, owner: object, number: int) -> str:
         """The kind of a parameter (its number), a result (NONE) or a field."""
-        plain = {"Int": "int", "Boolean": "int", "String": "text", "Place": "place", "Rail": "rail", "void": "none"}.get(type_.name)
+        plain = {"Int": "int", "Boolean": "int", "String": "text", "Place": "place", "Rail": "rail",
+                 "void": "none"}.get(type_.name)
         if plain:
             return plain
         if type_.name == "class":
@@ -108,10 +111,12 @@ class Writer:
         code.instrs = [it for it in code.instrs if it.op != "MOVE" or registers[it.dest] != registers[it.reads[0]]]
         count = sum(it.op != "LABEL" for it in code.instrs)
         if count > MOST_INSTRUCTIONS:
-            raise Fault(function.span, f"`{function.name}` has {count} instructions", f"At most {MOST_INSTRUCTIONS}: put a part into a def.")
+            raise Fault(function.span, f"`{function.name}` has {count} instructions",
+                        f"At most {MOST_INSTRUCTIONS}: put a part into a def.")
         self.out.bounds.append(self.bound(code))
         slots = self.number_loops(code)
-        kinds = [self.kind(function.result, function, NONE), *(self.kind(it.type, function, at) for at, it in enumerate(function.variables))]
+        kinds = [self.kind(function.result, function, NONE),
+                 *(self.kind(it.type, function, at) for at, it in enumerate(function.variables))]
         width = max([1, len(function.variables), *(it + 1 for it in registers.values())])
         to.add(f"; {self.numbers[function]}, line {function.span.line}: {function.full_name()}")
         to.add(" ".join(["func", str(width), str(slots), *kinds]), function.span)
@@ -135,16 +140,24 @@ class Writer:
         return {it.label: f"l{number}" for number, it in enumerate([it for it in code.instrs if it.op == "LABEL"], 1)}
 
     def instruction(self, it: Instr, registers: dict[int, int], labels: dict[int, str]) -> str:
-        row = it.arguments()
-        words = {
-            "d": lambda: registers[it.dest], "z": lambda: 0 if it.dest == NONE else registers[it.dest],
-            "r": lambda: registers[it.reads[0]] if it.reads else 0, "A": lambda: registers[row[0]] if row else 0,
-            "n": lambda: it.number, "c": lambda: self.classes[str(it.number)], "L": lambda: f"@{labels[it.label]}", "s": lambda: it.slot,
-            "k": lambda: self.ints.setdefault(int(str(it.number)), len(self.ints)),
-            "t": lambda: self.texts.setdefault(str(it.number), len(self.texts)),
-            "f": lambda: self.numbers[it.number] if isinstance(it.number, Function) else 0,
-        }
-        return " ".join([it.op, *(str(registers[it.reads[int(at)]] if at.isdigit() else words[at]()) for at in FORMS[it.op])])
+        return " ".join([it.op, *(str(self.operand(form, it, registers, labels)) for form in FORMS[it.op])])
+
+    def operand(self, form: str, it: Instr, registers: dict[int, int], labels: dict[int, str]) -> object:
+        """An operand of an instruction, by its letter in the table of forms."""
+        if form.isdigit():
+            return registers[it.reads[int(form)]]
+        if form in "dzrA":
+            value = {"d": [it.dest], "z": [it.dest], "r": it.reads, "A": it.arguments()}[form]
+            return registers.get(value[0], 0) if value else 0
+        if form == "L":
+            return f"@{labels[it.label]}"
+        if form == "f":
+            return self.numbers[it.number] if isinstance(it.number, Function) else 0
+        if form == "k":
+            return self.ints.setdefault(int(str(it.number)), len(self.ints))
+        if form == "t":
+            return self.texts.setdefault(str(it.number), len(self.texts))
+        return it.slot if form == "s" else self.classes[str(it.number)] if form == "c" else it.number
 
     def bound(self, code: Code) -> int:
         """The most steps that a function takes."""
@@ -158,6 +171,7 @@ class Writer:
             elif it.op == "ENDL":
                 turns.pop()
         if total > MOST_STEPS:
-            raise Fault(code.function.span, f"`{code.function.name}` could take {total} steps", "At most 2^48: give its loops smaller bounds, "
+            raise Fault(code.function.span, f"`{code.function.name}` could take {total} steps",
+                        "At most 2^48: give its loops smaller bounds, "
                         "or put turns into activities, which have bounds of their own.")
         return total

@@ -162,7 +162,7 @@ class Index(Expr):
 
 @dataclass(eq=False)
 class Property(Expr):
-    """What one instruction gives of a value or of the run; `op` is its name: RLEN, TLEN, PLACEI, NEXTP, HOME, GOPEN, COUNT, PLACEN."""
+    """What one instruction gives of a value or of the run: RLEN, TLEN, PLACEI, NEXTP, HOME, GOPEN, COUNT or PLACEN."""
 
     op: str
     of: Optional[Expr]
@@ -271,9 +271,12 @@ class Async(Stmt):
 
 @dataclass(eq=False)
 class At(Stmt):
+    """`is_spawn`: its body is an async, so it begins there and nobody goes along."""
+
     place: Expr
     body: Stmt
     call: Optional[Going] = field(default=None, init=False)
+    is_spawn: bool = field(default=False, init=False)
 
 
 @dataclass(eq=False)

@@ -21,7 +21,7 @@ class Var:
 
 @dataclass
 class Around:
-    """What is around a statement: variables, whether a loop is open, whether `return` may stand here, whether this is in atomic."""
+    """What is around a statement: variables, whether it is in a loop, may be a `return`, is in an atomic."""
 
     variables: list[Var] = field(default_factory=list)
     in_loop: bool = False
@@ -32,7 +32,7 @@ class Around:
 
     def inner(self, **changes: object) -> Around:
         made = replace(self, variables=list(self.variables), depth=self.depth + 1)
-        return replace(made, **changes)  # type: ignore[arg-type]
+        return replace(made, **changes)
 
 
 class ProgramWriter:
@@ -60,7 +60,8 @@ class ProgramWriter:
             self.classes[name] = []
             for _ in range(self.random.randint(1, 4)):
                 self.classes[name].append((self.fresh("f"), self.any_type(is_field=True), self.chance(0.8)))
-        text = "".join(f"class {name} {{ " + " ".join(f"{'var' if is_var else 'val'} {it}: {type_};" for it, type_, is_var in fields)
+        text = "".join(f"class {name} {{ " + " ".join(f"{'var' if is_var else 'val'} {it}: {type_};" for it, type_,
+                                                      is_var in fields)
                        + " }\n" for name, fields in self.classes.items())
         text += "static val LIMIT = 3 + 1;\n"
         for name in self.classes:
@@ -82,11 +83,10 @@ class ProgramWriter:
         made = self.fresh("make")
         self.defs.append((made, ["Int"], f"GlobalRef[{name}]"))
         values = ", ".join(self.safe_value(type_) for _, type_, _ in self.classes[name])
-        return f"def {made}(n: Int): GlobalRef[{name}] = GlobalRef(new {name}({values}));\n" if values.count("GlobalRef") == 0 else self.no_maker()
-
-    def no_maker(self) -> str:
-        self.defs.pop()
-        return ""
+        if "GlobalRef" in values:
+            self.defs.pop()
+            return ""
+        return f"def {made}(n: Int): GlobalRef[{name}] = GlobalRef(new {name}({values}));\n"
 
     def safe_value(self, type_: str) -> str:
         if type_ in self.classes:
@@ -118,7 +118,8 @@ class ProgramWriter:
         if around.depth < 4:
             kinds += [self.if_stmt, self.if_stmt, self.ask_null, self.for_stmt, self.while_stmt, self.call_stmt, self.ask_home]
             if not around.in_atomic:
-                kinds += [self.at_stmt, self.at_home, self.async_stmt, self.finish_stmt, self.atomic_stmt, self.many, self.places_loop]
+                kinds += [self.at_stmt, self.at_home, self.async_stmt, self.finish_stmt, self.atomic_stmt, self.many,
+                          self.places_loop]
         if around.depth and self.chance(0.3):
             kinds += [self.leave] * 3
         return self.random.choice(kinds)(around)
@@ -193,16 +194,16 @@ class ProgramWriter:
         if self.chance(0.5):
             first = self.random.randint(-2, 2)
             return f"for ({name} in {first}..{first + self.random.randint(-1, 3)}) {self.block(inner)}"
-        first, last = (f"({self.expr('Int', around, 1)}) % 4" for _ in range(2))
-        return f"for ({name} in {first}..{last}) @bound({self.pick([1, 2, 3, 9])}) {self.block(inner)}"
+        begin, end = (f"({self.expr('Int', around, 1)}) % 4" for _ in range(2))
+        return f"for ({name} in {begin}..{end}) @bound({self.pick([1, 2, 3, 9])}) {self.block(inner)}"
 
     def while_stmt(self, around: Around) -> str:
         if around.loops > 1:
             return self.print(around)
         name = self.fresh("w")
         inner = around.inner(in_loop=True, loops=around.loops + 1)
-        return (f"var {name}: Int = 0; while ({name} < LIMIT && {self.expr('Boolean', around, 1)}) @bound({self.pick([2, 4, 9])}) {{ {name} += 1; "
-                + self.block(inner) + " }")
+        condition = f"{name} < LIMIT && {self.expr('Boolean', around, 1)}"
+        return (f"var {name}: Int = 0; while ({condition}) @bound({self.pick([2, 4, 9])}) {{ {name} += 1; {self.block(inner)} }}")
 
     def call_stmt(self, around: Around) -> str:
         them = [it for it in self.defs if it[2] == "void"]
@@ -302,13 +303,15 @@ class ProgramWriter:
             return self.truth(around, depth)
         if type_ == "String":
             literal = f'"{self.pick(WORDS)}"'
-            return literal if depth < 1 or self.chance(0.6) else f"({self.expr('String', around, less)} + {self.expr('String', around, less)})"
+            is_plain = depth < 1 or self.chance(0.6)
+            return literal if is_plain else f"({self.expr('String', around, less)} + {self.expr('String', around, less)})"
         if type_ == "Place":
             if depth < 1 or self.chance(0.5):
                 return str(self.pick(["here", "here.next()", "Place(0)", "Place(1)", "Place.FIRST_PLACE"]))
             return str(self.pick([f"{self.expr('Place', around, less)}.next()", f"Place({self.varying(around)} % 3)"]))
         if type_ == "Rail[Byte]":
-            return f"new Rail[Byte]({self.pick([0, 1, 3, 8]) if depth < 1 or self.chance(0.7) else self.expr('Int', around, less)})"
+            size = self.pick([0, 1, 3, 8]) if depth < 1 or self.chance(0.7) else self.expr("Int", around, less)
+            return f"new Rail[Byte]({size})"
         if type_ in self.classes:
             if depth < 1 or self.chance(0.3):
                 return "null"
@@ -346,14 +349,16 @@ class ProgramWriter:
         less = depth - 1
         kind = self.random.randrange(6)
         if kind == 0:
-            return f"({self.expr('Boolean', around, less)} {self.pick(['&&', '||', '==', '!='])} {self.expr('Boolean', around, less)})"
+            op = self.pick(["&&", "||", "==", "!="])
+            return f"({self.expr('Boolean', around, less)} {op} {self.expr('Boolean', around, less)})"
         if kind == 1:
             return f"!{self.expr('Boolean', around, less)}"
         if kind == 2:
             return f"({self.expr('Place', around, less)} {self.pick(['==', '!='])} {self.expr('Place', around, less)})"
         if kind == 3:
             return f"({self.expr(str(self.pick(list(self.classes))), around, less)} {self.pick(['==', '!='])} null)"
-        return f"({self.expr('Int', around, less)} {self.pick(['<', '<=', '>', '>=', '==', '!='])} {self.expr('Int', around, less)})"
+        op = self.pick(["<", "<=", ">", ">=", "==", "!="])
+        return f"({self.expr('Int', around, less)} {op} {self.expr('Int', around, less)})"
 
 
 def random_program(seed: int) -> str:

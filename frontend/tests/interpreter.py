@@ -1,5 +1,5 @@
-"""Runs the tree of a program directly, in one order of its activities: each body of an async runs where it stands. So it says what a
-program prints where that doesn't depend on the order. It shares reading and checking with the compiler, and nothing else."""
+"""Runs the tree of a program directly, in one order of its activities: each body of an async runs where it stands. So it says
+what a program prints where that doesn't depend on the order. It shares reading and checking with the compiler, nothing else."""
 
 from __future__ import annotations
 
@@ -282,8 +282,11 @@ class Interpreter:
         if it.op == "GOPEN":
             assert of.home == self.here
             return of.of
-        return {"COUNT": lambda: self.places, "PLACEN": lambda: of, "PLACEI": lambda: of, "NEXTP": lambda: (of + 1) % self.places,
-                "HOME": lambda: of.home, "RLEN": lambda: len(of.bytes), "TLEN": lambda: len(of.encode("utf-8"))}[it.op]()
+        if it.op == "COUNT":
+            return self.places
+        if it.op in ("RLEN", "TLEN"):
+            return len(of.bytes if it.op == "RLEN" else of.encode("utf-8"))
+        return {"NEXTP": (of + 1) % self.places, "PLACEN": of, "PLACEI": of}[it.op] if it.op != "HOME" else of.home
 
 
 def interpreted(source: Source, places: int) -> Optional[list[str]]:

@@ -14,12 +14,13 @@ from compiler.text import Text
 
 TOP = Path(__file__).resolve().parent.parent
 # in which orders the activities of a program are run
-ORDERS = [[], ["--threads"], ["--seed", "1"], ["--seed", "2"], ["--schedule", "newest"], ["--schedule", "oldest"]]
+ORDERS: list[list[str]] = [[], ["--threads"], ["--seed", "1"], ["--seed", "2"], ["--schedule", "newest"], ["--schedule", "oldest"]]
 
 
 def x10p(*words: str) -> tuple[int, list[str], str]:
     """The status of a command, its lines, and what it says on standard error."""
-    ran = subprocess.run([os.environ["X10P"], *words], stdout=subprocess.PIPE, stderr=subprocess.PIPE, encoding="utf-8", timeout=60)
+    ran = subprocess.run([os.environ["X10P"], *words], stdout=subprocess.PIPE, stderr=subprocess.PIPE, encoding="utf-8",
+                         timeout=60)
     return ran.returncode, ran.stdout.splitlines(), ran.stderr.strip()
 
 

@@ -35,7 +35,8 @@ class Commands(unittest.TestCase):
         self.room.cleanup()
 
     def x10c(self, *words: str, given: bytes = b"", **environment: str) -> tuple[int, str, str]:
-        ran = subprocess.run([sys.executable, str(TOP / "x10c"), *words], stdout=subprocess.PIPE, stderr=subprocess.PIPE, input=given,
+        ran = subprocess.run([sys.executable, str(TOP / "x10c"), *words], stdout=subprocess.PIPE, stderr=subprocess.PIPE,
+                             input=given,
                              cwd=self.folder, env={**os.environ, **environment}, timeout=60)
         return ran.returncode, ran.stdout.decode("utf-8"), ran.stderr.decode("utf-8")
 
@@ -74,8 +75,9 @@ class Commands(unittest.TestCase):
 
     def test_tells_a_fault(self) -> None:
         wanted = "bad.x10:3:3: `n` is a val, and gets a second value\n      n = 2;\n      ^\nDeclare it by `var`.\n"
-        for words in ([], ["run"], ["check"], ["bounds"]):
-            self.assertEqual((1, "", wanted), self.x10c(*words, "bad.x10"))
+        self.assertEqual((1, "", wanted), self.x10c("bad.x10"))
+        for command in ("run", "check", "bounds"):
+            self.assertEqual((1, "", wanted), self.x10c(command, "bad.x10"))
         self.assertFalse((self.folder / "bad.asm").exists())
 
     def test_tells_a_fault_as_json(self) -> None:
@@ -87,7 +89,8 @@ class Commands(unittest.TestCase):
 
     def test_refuses_an_image(self) -> None:
         (self.folder / "image.x10").write_bytes(b"X10P\0\1\0\1")
-        self.assertEqual((4, "", "x10c: image.x10 is an image of x10p, and no source: run it by `x10p run`\n"), self.x10c("image.x10"))
+        self.assertEqual((4, "", "x10c: image.x10 is an image of x10p, and no source: run it by `x10p run`\n"),
+                         self.x10c("image.x10"))
 
     def test_refuses_what_is_no_file_or_text(self) -> None:
         (self.folder / "bytes.x10").write_bytes(b"def\xff")

@@ -6,7 +6,7 @@ import random
 import unittest
 
 from compiler.flow import State
-from compiler.names import quotient, wrapped
+from compiler.expressions import quotient, wrapped
 
 
 class Plain:

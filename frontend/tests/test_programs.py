@@ -5,8 +5,8 @@
     // 0: 5
     // 1: 6
 
-is a program: it is compiled, verified and run in several orders of its activities, and prints these lines in each. Where the comment
-`// in any order` follows, their order is left open; else the interpreter prints them too.
+is a program: it is compiled, verified and run in several orders of its activities, and prints these lines in each. Where the
+comment `// in any order` follows, their order is left open; else the interpreter prints them too.
 
     // $ refused 3:7
     // `n` is a val, and gets a second value
@@ -68,13 +68,16 @@ class Programs(unittest.TestCase):
         with self.assertRaises(Fault) as caught:
             text_of(name, source)
         fault = caught.exception
-        self.assertEqual([command.words[1], *command.lines], [f"{fault.span.line}:{fault.span.column}", fault.cause, fault.repair])
+        self.assertEqual([command.words[1], *command.lines],
+                         [f"{fault.span.line}:{fault.span.column}", fault.cause, fault.repair])
         told = fault.told(Source(name, source))
         self.assertRegex(told, rf"^{re.escape(name)}:\d+:\d+: .*\n    .*\n\s*\^+\n.*\n$")
 
     def runs(self, name: str, source: str, command: Command) -> None:
         text = text_of(name, source)
-        kept = sorted if command.is_any_order else list
+        def kept(lines: list[str]) -> list[str]:
+            return sorted(lines) if command.is_any_order else lines
+
         with Runs(text) as ran:
             status, lines, told = ran.bounds()
             self.assertEqual((0, [f"{number} {bound}" for number, bound in enumerate(text.bounds)]), (status, lines), told)

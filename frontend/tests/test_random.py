@@ -29,7 +29,8 @@ class Random(unittest.TestCase):
             if wanted is None:
                 self.assertIsNone(ran.refusal())
                 return
-            for order in ([], ["--seed", str(seed)]):
+            orders: list[list[str]] = [[], ["--seed", str(seed)]]
+            for order in orders:
                 status, lines, told = ran.run("--places", str(PLACES), *order)
                 self.assertEqual((0, "\n".join(wanted).splitlines()), (status, lines), told)
 
@@ -64,7 +65,8 @@ def damaged(source: str, choice: random.Random) -> str:
         elif how == 3:
             words[at] = words[other]
         else:
-            words[at] = choice.choice(["null", "here", "0", "-", "(", ")", "{", "}", ";", "\"", "@", "at", "async", "var", "return", "65536", "é"])
+            words[at] = choice.choice(["null", "here", "0", "-", "(", ")", "{", "}", ";", "\"", "@", "at", "async", "var",
+                                       "return", "65536", "é"])
     return "".join(words)
 
 

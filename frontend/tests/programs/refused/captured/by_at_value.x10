@@ -1,7 +1,7 @@
 // Nor by at as an expression.
 // $ refused 7:40
 // `n` is a var, and `at` captures vals alone
-// Copy it before: `val n1 = n;`. What the body changes is the field of an object.
+// Copy it before: `val n1 = n;`. What the body changes is a field of an object.
 def main() {
   var n: Int = 1;
   Console.OUT.println(at (here.next()) n + 1);
