@@ -14,13 +14,15 @@ from typing import Optional
 
 from .compiling import compiled
 from .messages import Fault, Source
+from .server import serve
 from .text import Text
 
 IMAGE = b"X10P"
 USAGE = """x10c FILE.x10 [-o FILE.asm] [--json]
        x10c run FILE.x10 [OPTION of x10p run ..]
        x10c check FILE.x10 [--json]
-       x10c bounds FILE.x10 [--json]"""
+       x10c bounds FILE.x10 [--json]
+       x10c lsp"""
 
 
 class Refused(Exception):
@@ -125,13 +127,18 @@ def verifier_fault(text: Text, told: dict) -> Optional[Fault]:  # type: ignore[t
     return None
 
 
-COMMANDS = {"run": run_command, "check": check_command, "bounds": bounds_command}
+def lsp_command(words: argparse.Namespace, rest: list[str]) -> int:
+    return serve()
+
+
+COMMANDS = {"lsp": lsp_command, "run": run_command, "check": check_command, "bounds": bounds_command}
 
 
 def parsed(arguments: list[str]) -> tuple[argparse.Namespace, list[str]]:
     command = arguments[0] if arguments and arguments[0] in COMMANDS else ""
     parser = argparse.ArgumentParser(prog="x10c", usage=USAGE, description="Compiles a subset of X10 to the text of x10p.")
-    parser.add_argument("file", metavar="FILE.x10")
+    if command != "lsp":
+        parser.add_argument("file", metavar="FILE.x10")
     parser.add_argument("--json", action="store_true", help="faults and answers as JSON")
     if not command:
         parser.add_argument("-o", dest="output", metavar="FILE.asm", help="where the text goes; `-` is standard output")

@@ -39,12 +39,15 @@ def compiled(source: Source) -> Text:
     """The text of a program; a Fault where there is one."""
     try:
         program = parse(source)
-        main = Checker(program).check()
+        checker = Checker(program)
+        main = checker.check()
         codes = [Lowering(source, it).lowered() for it in lift_all(program)]
         facts = analyse(codes, {it.name: it for it in program.classes}, source)
         for code in codes:
             improved(code)
-        return Writer(source, program, codes, main, facts).written()
+        text = Writer(source, program, codes, main, facts).written()
+        text.uses = checker.uses
+        return text
     except RecursionError:
         raise Fault(Span(0, 1, 1, 1), "the program nests too deeply",
                     "Split long expressions, and put inner statements into a def.") from None

@@ -75,6 +75,7 @@ class Expressions:
         # the variables that are read somewhere, and those that `val` or `var` declares
         self.used: set[tree.Variable] = set()
         self.declared: set[tree.Variable] = set()
+        self.uses: list[tree.Use] = []
         self.class_name = ""
         self.function: Optional[tree.Function] = None
         # of the innermost body of a def, at or async: how many loops are open, and which word it belongs to
@@ -93,6 +94,7 @@ class Expressions:
         if not isinstance(it.value, tree.Literal) or it.value.value is None:
             raise Fault(it.value.span, f"the value of `{it.name}` is no constant",
                         "A static val is a number, a truth value or a text, made from constants.")
+        self.uses.append((span, it.span, f"constant {it.name}: {it.value.type}"))
         return literal(span, it.value.value, it.value.type)
 
     def found(self, name: str) -> Optional[tree.Variable]:
@@ -134,10 +136,14 @@ class Expressions:
     def expr_here(self, it: tree.Here) -> Expr:
         return typed(it, PLACE)
 
+    def told(self, it: tree.Variable) -> str:
+        return f"{'var' if it.is_var else 'val'} {it.name}: {it.type}"
+
     def expr_name(self, it: tree.Name) -> Expr:
         variable = self.found(it.name)
         if variable is not None:
             self.used.add(variable)
+            self.uses.append((it.span, variable.span, self.told(variable)))
             if variable.constant is not None:
                 return literal(it.span, variable.constant, variable.type)
             return typed(tree.Local(it.span, variable), variable.type)
@@ -188,7 +194,12 @@ class Expressions:
         if it.name not in fields:
             raise Fault(it.name_span, f"`{of.type}` has no field `{it.name}`",
                         near(it.name, fields, f"It has {', '.join(fields) or 'none'}."))
-        return typed(tree.FieldOf(it.span, of, fields[it.name]), fields[it.name].type)
+        field = fields[it.name]
+        self.uses.append((it.name_span, field.span, self.told_field(of.type.of, field)))
+        return typed(tree.FieldOf(it.span, of, field), field.type)
+
+    def told_field(self, class_name: str, it: tree.Field) -> str:
+        return f"field {'var' if it.is_var else 'val'} {class_name}.{it.name}: {it.type}"
 
     def expr_apply(self, it: tree.Apply) -> Expr:
         of = it.of
@@ -254,6 +265,7 @@ class Expressions:
             raise Fault(it.span,
                         f"`{function.name}` has {len(function.variables)} parameters, and gets {len(it.arguments)} arguments",
                         f"It is `def {function.name}({signature})`.")
+        self.uses.append((it.of.name_span if isinstance(it.of, tree.Member) else it.of.span, function.span, function.signature()))
         arguments = [self.wanted(given, at.type, f"`{at.name}`") for given, at in zip(it.arguments, function.variables)]
         return typed(tree.Call(it.span, function, arguments), function.result)
 

@@ -43,9 +43,10 @@ class Checker(Expressions):
         for function in self.program.functions:
             self.check_signature(function, function is main)
         for function in self.program.functions:
+            self.uses.append((function.span, function.span, function.signature()))
             self.check_function(function)
         for static in self.program.statics:
-            self.constant_of(static, static.span)
+            self.constant_of(static, static.span)  # (which is a use at its own name)
         return main
 
     def add(self, them: dict, name: object, it: object, span: Span, what: str) -> None:  # type: ignore[type-arg]
@@ -57,10 +58,12 @@ class Checker(Expressions):
         if len(it.fields) > MOST_FIELDS:
             raise Fault(it.fields[MOST_FIELDS].span, f"`{it.name}` has {len(it.fields)} fields",
                         f"A class has at most {MOST_FIELDS}: put some into an object of another class.")
+        self.uses.append((it.span, it.span, f"class {it.name}"))
         names: dict[str, tree.Field] = {}
         for number, field in enumerate(it.fields):
             self.add(names, field.name, field, field.span, "field")
             field.number, field.type = number, self.type_of(field.type_name)
+            self.uses.append((field.span, field.span, self.told_field(it.name, field)))
             if field.value is not None:
                 field.value = self.wanted(field.value, field.type, f"the field `{field.name}`")
                 if not isinstance(field.value, tree.Literal):
@@ -96,6 +99,9 @@ class Checker(Expressions):
                         f"Put `return ..;` at its end: it gives {it.result.told()}.")
 
     def type_of(self, it: tree.TypeName) -> Type:
+        of = it.argument or it.name
+        if of in self.classes:
+            self.uses.append((it.span, self.classes[of].span, f"class {of}"))
         if it.argument and it.name == "GlobalRef" and it.argument in self.classes:
             return Type("GlobalRef", it.argument)
         if it.name == "Rail" and it.argument == "Byte":
@@ -120,6 +126,7 @@ class Checker(Expressions):
         if any(it.name in scope for scope in self.scopes):
             raise Fault(it.span, f"there is a variable `{it.name}` here already", "Give one of the two another name.")
         self.scopes[-1][it.name] = it
+        self.uses.append((it.span, it.span, self.told(it)))
 
     # --- statements
 

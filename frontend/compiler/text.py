@@ -10,19 +10,20 @@ from .flow import Facts
 from .ir import FORMS, NONE, Code, Instr, least_places
 from .messages import Fault, Source, Span
 from .registers import allocate
-from .tree import Function, Type
+from .tree import Function, Type, Use
 
 MOST_FUNCTIONS, MOST_INSTRUCTIONS, MOST_STEPS = 256, 4096, 2**48
 
 
 @dataclass
 class Text:
-    """The lines of a text, for each the span that it comes from, and for each function, by its number, its name and bound."""
+    """The lines of a text, for each the span that it comes from, for each function its bound, and the names in the source."""
 
     lines: list[str] = field(default_factory=list)
     spans: list[Optional[Span]] = field(default_factory=list)
     functions: list[Function] = field(default_factory=list)
     bounds: list[int] = field(default_factory=list)
+    uses: list[Use] = field(default_factory=list)
 
     def add(self, line: str, span: Optional[Span] = None) -> None:
         self.lines.append(line)

@@ -21,12 +21,16 @@ class Type:
 
     def told(self) -> str:
         """With its article."""
+        if self == VOID:
+            return "a call without a value"
         return f"an {self}" if str(self)[0] in "AEIOUaeiou" else f"a {self}"
 
 
 INT, BOOLEAN, STRING, PLACE = Type("Int"), Type("Boolean"), Type("String"), Type("Place")
 RAIL, NULL, VOID, PLACES = Type("Rail", "Byte"), Type("null"), Type("void"), Type("Place.places()")
 Constant = Union[int, bool, str, None]
+# a name in a source: its span, that of its declaration, and what it is
+Use = tuple[Span, Span, str]
 
 
 @dataclass(eq=False)
@@ -310,6 +314,10 @@ class Function:
     variables: list[Variable] = field(default_factory=list, init=False)
     result: Type = field(default=VOID, init=False)
     is_lifted: bool = field(default=False, init=False)
+
+    def signature(self) -> str:
+        result = "" if self.result == VOID else f": {self.result}"
+        return f"def {self.name}({', '.join(f'{it.name}: {it.type}' for it in self.variables)}){result}"
 
     def full_name(self) -> str:
         return f"{self.class_name}.{self.name}" if self.class_name else self.name

@@ -15,6 +15,8 @@ from support import TOP, Runs, text_of
 
 COUNT, SEED = int(os.environ.get("X10C_FUZZ", "100")), int(os.environ.get("X10C_SEED", "1"))
 PLACES = 3
+STRANGE = ["null", "here", "-", "(", ")", "{", "}", ";", "\"", "@", "at", "async", "var", "return", "é", "!", "=="]
+NUMBERS = ["0", "1", "64", "65535", "65536", "9223372036854775808"]
 WORD = re.compile(r"//[^\n]*|\"(?:\\.|[^\"\\\n])*\"|\w+|\s+|.", re.DOTALL)
 
 
@@ -51,22 +53,24 @@ class Damaged(unittest.TestCase):
 
 
 def damaged(source: str, choice: random.Random) -> str:
-    """A source with one to three words taken out, doubled, exchanged or replaced."""
+    """A source with one to three words taken out, doubled, exchanged or replaced; often by one of the same sort, so that it can
+    still be read."""
     words = WORD.findall(source)
+    alike = [number for number, it in enumerate(words) if it[0].isalnum()]
     for _ in range(choice.randint(1, 3)):
-        at, other = choice.randrange(len(words)), choice.randrange(len(words))
-        how = choice.randrange(5)
+        how = choice.randrange(8)
+        among = alike if how > 3 else range(len(words))
+        at, other = choice.choice(among), choice.choice(among)
         if how == 0:
             words[at] = ""
         elif how == 1:
             words[at] *= 2
-        elif how == 2:
+        elif how in (2, 4):
             words[at], words[other] = words[other], words[at]
         elif how == 3:
-            words[at] = words[other]
+            words[at] = choice.choice(STRANGE)
         else:
-            words[at] = choice.choice(["null", "here", "0", "-", "(", ")", "{", "}", ";", "\"", "@", "at", "async", "var",
-                                       "return", "65536", "é"])
+            words[at] = words[other] if words[at].isalpha() == words[other].isalpha() else choice.choice(NUMBERS)
     return "".join(words)
 
 
