@@ -5,6 +5,7 @@ reference whose home is here, as long as no call, return or assignment gives it 
 from __future__ import annotations
 
 from dataclasses import dataclass, field
+from heapq import heappop, heappush
 from typing import Optional
 
 from .ir import NONE, Code, Instr
@@ -96,7 +97,8 @@ class Flow:
         self.states[0] = entry.named()
         waiting = [0]
         while waiting:
-            at = waiting.pop()
+            # (in the order of the text, in which nearly all ways lead)
+            at = heappop(waiting)
             state = self.states[at]
             assert state is not None
             next_state = self.after(self.code.instrs[at], state)
@@ -106,7 +108,8 @@ class Flow:
                 now = given.named() if known is None else known.meet(given)
                 if now != known:
                     self.states[to] = now
-                    waiting.append(to)
+                    if to not in waiting:
+                        heappush(waiting, to)
 
     def learn(self, state: State, value: int, type_: Type, owner: object, number: int, home: int) -> None:
         """What is known of a value that comes from a parameter, a result or a field."""
