@@ -15,13 +15,15 @@ MOST_LOOPS = 8
 class Lowering(Values):
     def lowered(self) -> Code:
         self.stmt(self.function.body)
-        span = self.function.span
+        span, base = self.function.span, self.region()
         if self.function.result == VOID:
+            self.put(base.end, span)
             self.emit("RET", span)
-        base = self.region()
-        self.handle(base)
-        # the way that no run takes: an end with any result
-        if base.handlers or self.has_default():
+            self.handle(base)
+            self.emit("RET", span)
+        elif self.has_default():
+            self.handle(base)
+            # (here a way ends that no run takes, too)
             self.put(base.end, span)
             self.emit("RET", span, reads=self.default_result())
         return self.code
@@ -62,7 +64,7 @@ class Lowering(Values):
             self.mark(target.of)
         elif isinstance(target, tree.Index):
             rail, index = self.value(target.rail), self.value(target.index)
-            outside = self.failing(target, "the index is outside of the rail")
+            outside = self.outside(target)
             old = self.make("RGET", target, NONE, [rail, index], label=outside) if it.op else NONE
             self.emit("RSET", it.span, reads=[rail, index, self.assigned(it, old)], label=outside)
 

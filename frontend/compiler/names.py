@@ -156,6 +156,8 @@ class Checker(Expressions):
                         f"Write the type: `{it.name}: C`." if it.value.type == NULL else "Take an expression with a value.")
         constant = it.value.value if isinstance(it.value, tree.Literal) and not it.is_var else None
         it.variable = tree.Variable(it.name, it.value.type, it.is_var, it.span, constant)
+        if isinstance(it.value, tree.NewRail) and isinstance(it.value.size, tree.Literal) and not it.is_var:
+            it.variable.range = 0, int(it.value.size.value or 0)
         self.declare(it.variable)
         self.declared.add(it.variable)
         return it
@@ -233,6 +235,8 @@ class Checker(Expressions):
             else:
                 it.bound = self.stated(it.stated, it.first.span.to(it.last.span), f"for ({it.name} in ..)")
         it.variable = tree.Variable(it.name, PLACE if it.last is None else INT, False, it.name_span)
+        if isinstance(it.first, tree.Literal) and isinstance(it.last, tree.Literal):
+            it.variable.range = int(it.first.value or 0), int(it.last.value or 0)
         self.scopes.append({})
         self.declare(it.variable)
         it.body = self.loop_body(it.body)

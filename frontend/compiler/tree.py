@@ -35,13 +35,15 @@ Use = tuple[Span, Span, str]
 
 @dataclass(eq=False)
 class Variable:
-    """A local variable or a parameter. One with a constant needs no register."""
+    """A local variable or a parameter. One with a constant needs no register. `range` is from which to which number a variable
+    of a loop goes, and of a val that is a new rail 0 and its length; else it says nothing."""
 
     name: str
     type: Type
     is_var: bool
     span: Span
     constant: Constant = None
+    range: tuple[int, int] = (-1, 0)
 
 
 @dataclass(eq=False)

@@ -230,7 +230,16 @@ class Values:
 
     def value_index(self, it: tree.Index, dest: int) -> int:
         rail, index = self.value(it.rail), self.value(it.index)
-        return self.make("RGET", it, dest, [rail, index], label=self.failing(it, "the index is outside of the rail"))
+        return self.make("RGET", it, dest, [rail, index], label=self.outside(it))
+
+    def outside(self, it: tree.Index) -> int:
+        """Where an index goes to that is outside of its rail: none is, where the length and the range are known."""
+        length = it.rail.variable.range[1] if isinstance(it.rail, tree.Local) else 0
+        least, most = it.index.variable.range if isinstance(it.index, tree.Local) else (-1, -1)
+        if isinstance(it.index, tree.Literal):
+            least = most = int(it.index.value or 0)
+        is_sure = 0 <= least and most < length
+        return self.never(it) if is_sure else self.failing(it, "the index is outside of the rail")
 
     def value_newrail(self, it: tree.NewRail, dest: int) -> int:
         size = self.value(it.size)
