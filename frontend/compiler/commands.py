@@ -15,9 +15,10 @@ from typing import Optional
 from .compiling import compiled
 from .messages import Fault, Source
 from .server import serve
-from .text import Text
+from .text import WRITTEN, Text
 
 IMAGE = b"X10P"
+MOST_CALLS = 5000
 USAGE = """x10c FILE.x10 [-o FILE.asm] [--json]
        x10c run FILE.x10 [OPTION of x10p run ..]
        x10c check FILE.x10 [--json]
@@ -71,8 +72,21 @@ def compile_command(words: argparse.Namespace, rest: list[str]) -> int:
     if words.output is None and words.file == "-":
         name = "-"
     text = compiled(source)
+    if words.output is None and name != "-" and not is_replaced(name):
+        raise Refused(f"{name} is there, and x10c hasn't written it: to replace it, say `-o {name}`", 4)
     write(text, name)
     return 0
+
+
+def is_replaced(name: str) -> bool:
+    """Whether a text may be written without being asked for: there is none, or it is one of x10c's."""
+    try:
+        with open(name, encoding="utf-8", errors="replace") as it:
+            return it.readline().rstrip("\n").endswith(WRITTEN)
+    except FileNotFoundError:
+        return True
+    except OSError:
+        return False
 
 
 def run_command(words: argparse.Namespace, rest: list[str]) -> int:
@@ -151,6 +165,8 @@ def parsed(arguments: list[str]) -> tuple[argparse.Namespace, list[str]]:
 
 def main(arguments: list[str]) -> int:
     words, rest = parsed(arguments)
+    # (long sums and chains of else nest deeply)
+    sys.setrecursionlimit(MOST_CALLS)
     try:
         return COMMANDS.get(words.command, compile_command)(words, rest)
     except Refused as refused:

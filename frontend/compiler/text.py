@@ -12,6 +12,8 @@ from .messages import Fault, Source, Span
 from .registers import allocate
 from .tree import Function, Type, Use
 
+# how the first line of a text ends
+WRITTEN = ", compiled by x10c"
 MOST_FUNCTIONS, MOST_INSTRUCTIONS, MOST_STEPS = 256, 4096, 2**48
 
 
@@ -78,7 +80,8 @@ class Writer:
         for code in self.codes:
             self.function(code, bodies)
         out = self.out
-        out.add(f"; {self.source.name.rpartition('/')[2]}, compiled by x10c")
+        name = self.source.name.rpartition("/")[2].replace("\n", " ")
+        out.add(f"; {name}{WRITTEN}")
         if any(it.op == "ATOMB" for code in self.codes for it in code.instrs):
             out.add("version 2")
         out.add(f"places {least_places(self.codes)}")

@@ -47,6 +47,19 @@ class Commands(unittest.TestCase):
     def test_names_the_text_after_the_source(self) -> None:
         self.assertEqual((0, "", ""), self.x10c("good.x10"))
         self.assertTrue((self.folder / "good.asm").is_file())
+        self.assertEqual((0, "", ""), self.x10c("good.x10"))
+
+    def test_replaces_no_text_of_others(self) -> None:
+        (self.folder / "good.asm").write_text("; by hand\nplaces 1\n", encoding="utf-8")
+        told = "x10c: good.asm is there, and x10c hasn't written it: to replace it, say `-o good.asm`\n"
+        self.assertEqual((4, "", told), self.x10c("good.x10"))
+        self.assertEqual((0, "", ""), self.x10c("good.x10", "-o", "good.asm"))
+
+    def test_nests(self) -> None:
+        """A sum of 500 numbers, and one that is too long."""
+        for count, status in ((500, 0), (20_000, 1)):
+            (self.folder / "sum.x10").write_text(f"def main() {{ val n = here.id; Console.OUT.println({' + '.join(['n'] * count)}); }}")
+            self.assertEqual(status, self.x10c("sum.x10")[0])
 
     def test_reads_and_writes_the_standard_streams(self) -> None:
         status, out, told = self.x10c("-", "-o", "-", given=GOOD.encode())
@@ -106,7 +119,8 @@ class Commands(unittest.TestCase):
         """A verifier that refuses everything: its fault is told at the line that the instruction comes from."""
         fault = {"line": 12, "cause": "Home", "asked": "GOPEN asks it.", "known": "it isn't known", "repair": "Ask."}
         program = self.folder / "x10p"
-        program.write_text(f"#!/bin/sh\necho '{json.dumps({'faults': [fault]})}'\nexit 1\n", encoding="utf-8")
+        (self.folder / "told").write_text(json.dumps({"faults": [fault]}), encoding="utf-8")
+        program.write_text("#!/bin/sh\ncat told\nexit 1\n", encoding="utf-8")
         program.chmod(0o755)
         status, out, told = self.x10c("check", "good.x10", X10P=str(program))
         self.assertEqual((1, ""), (status, out))
