@@ -58,7 +58,8 @@ class Commands(unittest.TestCase):
     def test_nests(self) -> None:
         """A sum of 500 numbers, and one that is too long."""
         for count, status in ((500, 0), (20_000, 1)):
-            (self.folder / "sum.x10").write_text(f"def main() {{ val n = here.id; Console.OUT.println({' + '.join(['n'] * count)}); }}")
+            sum_ = " + ".join(["n"] * count)
+            (self.folder / "sum.x10").write_text(f"def main() {{ val n = here.id; Console.OUT.println({sum_}); }}", encoding="utf-8")
             self.assertEqual(status, self.x10c("sum.x10")[0])
 
     def test_reads_and_writes_the_standard_streams(self) -> None:

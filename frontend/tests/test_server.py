@@ -60,7 +60,8 @@ class Servers(unittest.TestCase):
         self.assertEqual("`Box` has no field `m`\nIt has n.", told[1][0]["message"])
 
     def test_tells_what_a_name_is(self) -> None:
-        found = conversation(opened(SOURCE), asked("hover", 5, 23), asked("hover", 2, 25), asked("hover", 2, 30), asked("hover", 5, 0))
+        places = [(5, 23), (2, 25), (2, 30), (5, 0)]
+        found = conversation(opened(SOURCE), *(asked("hover", *place) for place in places))
         told = [it["result"] and it["result"]["contents"]["value"] for it in found if "id" in it][1:]
         wanted = ["```x10\ndef add(b: Box): Int\n```\n\nAt most 4 steps.", "```x10\nfield var Box.n: Int\n```",
                   "```x10\nconstant STEP: Int\n```", None]
