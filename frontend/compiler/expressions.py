@@ -203,10 +203,13 @@ class Expressions:
 
     def expr_apply(self, it: tree.Apply) -> Expr:
         of = it.of
-        if isinstance(of, tree.Name) and self.found(of.name) is None:
+        variable = self.found(of.name) if isinstance(of, tree.Name) else None
+        is_applied = variable is not None and variable.type.name in ("Rail", "GlobalRef")
+        if isinstance(of, tree.Name) and not is_applied:
             function = self.function_named(of.name)
             if function:
                 return self.call(it, function)
+        if isinstance(of, tree.Name) and variable is None:
             if of.name == "Place":
                 return self.place_of(it)
             names = [name for _, name in self.functions]
