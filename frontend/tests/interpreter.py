@@ -75,9 +75,10 @@ class Interpreter:
         self.lines: list[list[str]] = [[] for _ in range(places)]
 
     def run(self) -> list[str]:
-        """The lines that the program prints, as x10p shows them."""
+        """The lines that the program prints, as x10p shows them: a text that holds line feeds takes several."""
         self.body(self.main.body, {}, tree.VOID)
-        return [f"{place}: {line}" for place, lines in enumerate(self.lines) for line in lines]
+        told = [f"{place}: {line}\n" for place, lines in enumerate(self.lines) for line in lines]
+        return "".join(told).split("\n")[:-1]
 
     def failed(self, it: tree.Node, what: str) -> Failed:
         return Failed(f"{self.name}:{it.span.line}: {what}")

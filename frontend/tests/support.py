@@ -21,7 +21,7 @@ def x10p(*words: str) -> tuple[int, list[str], str]:
     """The status of a command, its lines, and what it says on standard error."""
     ran = subprocess.run([os.environ["X10P"], *words], stdout=subprocess.PIPE, stderr=subprocess.PIPE, encoding="utf-8",
                          timeout=60)
-    return ran.returncode, ran.stdout.splitlines(), ran.stderr.strip()
+    return ran.returncode, ran.stdout.split("\n")[:-1], ran.stderr.strip()
 
 
 def text_of(name: str, source: str) -> Text:

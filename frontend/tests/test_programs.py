@@ -86,7 +86,7 @@ class Programs(unittest.TestCase):
                 self.assertEqual((0, kept(command.lines)), (status, kept(lines)), f"{order} {told}")
         if not command.is_any_order:
             places = int(command.words[command.words.index("--places") + 1]) if "--places" in command.words else least(text.lines)
-            self.assertEqual(command.lines, "\n".join(interpreted(Source(name, source), places) or []).splitlines())
+            self.assertEqual(command.lines, interpreted(Source(name, source), places))
 
 
 def least(lines: list[str]) -> int:

@@ -34,7 +34,7 @@ class Random(unittest.TestCase):
             orders: list[list[str]] = [[], ["--seed", str(seed)]]
             for order in orders:
                 status, lines, told = ran.run("--places", str(PLACES), *order)
-                self.assertEqual((0, "\n".join(wanted).splitlines()), (status, lines), told)
+                self.assertEqual((0, wanted), (status, lines), told)
 
 
 class Damaged(unittest.TestCase):
