@@ -6,6 +6,7 @@ import argparse
 import json
 import os
 import shutil
+import signal
 import subprocess
 import sys
 import tempfile
@@ -167,6 +168,8 @@ def main(arguments: list[str]) -> int:
     words, rest = parsed(arguments)
     # (long sums and chains of else nest deeply)
     sys.setrecursionlimit(MOST_CALLS)
+    # a reader that has gone, as `head`, ends this program without a word
+    signal.signal(signal.SIGPIPE, signal.SIG_DFL)
     try:
         return COMMANDS.get(words.command, compile_command)(words, rest)
     except Refused as refused:

@@ -6,7 +6,7 @@ from dataclasses import dataclass, field
 from typing import Iterable, Iterator
 
 from .messages import Span
-from .tree import Class, Function, Type
+from .tree import Function, Type
 
 # Of each operation its operands in the order of the text: d what it writes (z: 0 where that is nothing), 0 to 2 what it reads,
 # r the same (0 where that is nothing), A the first of its arguments, n a number, k an int, t a text, c a class, f a function,
@@ -102,7 +102,3 @@ def live_out(code: Code) -> list[set[int]]:
 def least_places(codes: Iterable[Code]) -> int:
     """A PLACEK names a place that each run has."""
     return max((int(str(it.number)) + 1 for code in codes for it in code.instrs if it.op == "PLACEK"), default=1)
-
-
-def class_of(types: list[Type], classes: dict[str, Class], value: int) -> Class:
-    return classes[types[value].of]
