@@ -43,7 +43,7 @@ def read(name: str) -> Source:
     if data.startswith(IMAGE):
         raise Refused(f"{name} is an image of x10p, and no source: run it by `x10p run`", 4)
     try:
-        return Source(name, data.decode("utf-8"))
+        return Source(name, data.decode("utf-8-sig"))
     except UnicodeDecodeError as wrong:
         raise Refused(f"{name} isn't UTF-8, at byte {wrong.start}", 4) from None
 
