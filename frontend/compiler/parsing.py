@@ -13,7 +13,8 @@ from lark.tree import Meta
 from . import tree
 from .messages import Fault, Source, Span
 
-WORDS = re.compile(r"//[^\n]*|/\*(?:.|\n)*?\*/|\"(?:\\.|[^\"\\\n])*\"|(?P<word>[A-Za-z_][A-Za-z0-9_]*)")
+WORDS = re.compile(r"import[ \t]+x10\.io\.Console[ \t]*;|//[^\n]*|/\*(?:.|\n)*?\*/|\"(?:\\.|[^\"\\\n])*\""
+                   r"|(?P<word>[A-Za-z_][A-Za-z0-9_]*)")
 # words of X10 that the subset doesn't have, and what to write in their place
 NO_EXCEPTIONS = "Nothing can be thrown: what fails prints a line and ends its function. Ask before it, by `if`."
 NO_METHODS = "Write a def that has the object as a parameter."
@@ -24,7 +25,8 @@ OUTSIDE = {
     "this": NO_METHODS, "super": NO_METHODS, "operator": NO_METHODS, "property": NO_METHODS, "abstract": NO_METHODS,
     "interface": NO_CLASSES, "extends": NO_CLASSES, "implements": NO_CLASSES, "struct": NO_CLASSES, "instanceof": NO_CLASSES,
     "when": NO_CLOCKS, "clocked": NO_CLOCKS, "resume": NO_CLOCKS, "offer": NO_CLOCKS, "offers": NO_CLOCKS,
-    "import": "A program is one file.", "package": "A program is one file.", "native": "A def has a body.",
+    "import": "A program is one file; it may import x10.io.Console.", "package": "A program is one file.",
+    "native": "A def has a body.",
     "ateach": "Write `for (p in Place.places()) async at (p) ..`.", "do": "Write `while (..) @bound(N) ..`.",
     "switch": "Write `if` and `else`.", "as": "There are no conversions between types.",
 }

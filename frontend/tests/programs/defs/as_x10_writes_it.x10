@@ -2,6 +2,7 @@
 // $ run
 // 0: hello
 // 0: again
+import x10.io.Console;
 public class Hello {
   public static def main(args: Rail[String]): void {
     Console.OUT.println("hello");
