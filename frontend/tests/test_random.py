@@ -13,7 +13,7 @@ from fuzzing import random_program
 from interpreter import interpreted
 from support import TOP, Runs, text_of
 
-COUNT, SEED = int(os.environ.get("X10C_FUZZ", "100")), int(os.environ.get("X10C_SEED", "1"))
+COUNT, SEED = int(os.environ.get("X10C_FUZZ", "60")), int(os.environ.get("X10C_SEED", "1"))
 PLACES = 3
 STRANGE = ["null", "here", "-", "(", ")", "{", "}", ";", "\"", "@", "at", "async", "var", "return", "é", "!", "=="]
 NUMBERS = ["0", "1", "64", "65535", "65536", "9223372036854775808"]
