@@ -15,7 +15,7 @@ mod turn;
 pub use hall::Hall;
 pub use keys::Keys;
 pub use mail::{Desk, Mail};
-pub use port::{End, Port, PostFault, Signal, Take};
+pub use port::{Port, PostFault, Signal, Take};
 pub use repeats::Repeats;
 pub use state::HallState;
 pub use turn::{Posted, Stint, Taken, Turn};

@@ -263,16 +263,24 @@ impl Mail {
 pub struct Desk<'a, R: Wait> {
     rt: &'a R,
     mail: &'a Mail,
+    /// Whether its worker has stopped the run.
+    stopped: bool,
 }
 
 impl<'a, R: Wait> Desk<'a, R> {
     /// A desk for one worker; all workers of a run share the mail.
     pub fn new(rt: &'a R, mail: &'a Mail) -> Desk<'a, R> {
-        Desk { rt, mail }
+        Desk {
+            rt,
+            mail,
+            stopped: false,
+        }
     }
 }
 
 impl<R: Wait> Port for Desk<'_, R> {
+    ghost stopped = { λ desk. desk.stopped };
+
     fn take(&self, place: u16) -> Take {
         self.mail.shared.lock(self.rt).take(place)
     }
@@ -303,14 +311,20 @@ impl<R: Wait> Port for Desk<'_, R> {
     }
 
     fn is_stopped(&self) -> bool {
-        self.mail.stopped.load(Ordering::SeqCst)
+        self.stopped || self.mail.stopped.load(Ordering::SeqCst)
     }
 
-    fn end(&self, how: End) {
-        let changed = self.mail.shared.lock(self.rt).end(how);
-        if how == End::Stopped {
-            self.mail.stopped.store(true, Ordering::SeqCst);
+    fn finish(&self) {
+        let changed = self.mail.shared.lock(self.rt).end(End::Finished);
+        if changed {
+            self.mail.wake_all();
         }
+    }
+
+    fn stop(&mut self) {
+        self.stopped = true;
+        let changed = self.mail.shared.lock(self.rt).end(End::Stopped);
+        self.mail.stopped.store(true, Ordering::SeqCst);
         if changed {
             self.mail.wake_all();
         }

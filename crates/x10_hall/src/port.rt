@@ -30,7 +30,7 @@ pub enum Signal {
 
 /// How a worker ends the run for all.
 #[derive(Clone, Copy, Debug, PartialEq, Eq)]
-pub enum End {
+pub(crate) enum End {
     /// No activity is left.
     Finished,
     /// The worker can't go on.
@@ -52,8 +52,13 @@ pub enum PostFault {
 }
 
 /// The hall as a worker sees it. No method says what it does to what the threads share, since others may do the same at any
-/// time; the methods of `Hall` say that. Of `post` it is known why turns aren't posted.
+/// time; the methods of `Hall` say that. Of `post` it is known why turns aren't posted. A port knows whether `stop` was called
+/// through it, which no other method changes.
 pub trait Port {
+    ghost use Rattle.std.specs.Prelude.{◌≡◌, Bool, true};
+
+    ghost stopped: { Self → Bool } = { λ _. true };
+
     /// Takes the next frame of a place's row.
     fn take(&self, place: u16) -> Take;
 
@@ -68,6 +73,10 @@ pub trait Port {
     /// Whether a worker has stopped the run. Waits for nobody, and costs next to nothing, so that it can be asked at each turn.
     fn is_stopped(&self) -> bool;
 
-    /// Ends the run for all workers. Those that wait are woken, but not again where the run had ended in this way before.
-    fn end(&self, how: End);
+    /// Ends the run for all workers: no activity is left. Those that wait are woken, but not again where it had ended before.
+    fn finish(&self);
+
+    /// Stops the run for all workers, even if it has ended. Those that wait are woken, but not again where it was stopped before.
+    fn stop(&mut self)
+        ensures { Self.stopped self.new ≡ true };
 }

@@ -143,7 +143,7 @@ fn worked<'a, R: Wait + Abort>(
     rt: &R,
     alloc: Global,
     verified: &'a Verified<'a>,
-    desk: &Desk<R>,
+    desk: &mut Desk<R>,
 ) -> Option<Trail<'a>> {
     if verified.image().least() > 1 {
         return None;
@@ -176,7 +176,7 @@ fn prints_five(
 /// The only worker's turns are compared with its log. Nothing where memory was refused.
 fn weaves<R: Wait + Abort>(alloc: Global, rt: &R, verified: &Verified) -> Option<()> {
     let mail = Mail::new(alloc, 1, 1_000).ok()?;
-    let trail = worked(rt, alloc, verified, &Desk::new(rt, &mail))?;
+    let trail = worked(rt, alloc, verified, &mut Desk::new(rt, &mail))?;
     let mut trails = Vec::new(alloc);
     trails.push(trail).ok()?;
     let log = mail.into_hall().into_log();

@@ -1,12 +1,11 @@
 -- Why a worker stopped.
-use Rattle.std.proofs.Common.{◌≡◌, ℕ, List, [], ◌∷◌, Result, Ok, Err, IfErr, refl, sym, subst, inl, inr}
+use Rattle.std.proofs.Common.{◌≡◌, ◌⊎◌, ℕ, List, [], ◌∷◌, Result, Ok, Err, IfErr, refl, sym, subst, inl, inr}
 use Rattle.std.specs.Prelude.{MatchResult, replicate, take, true, ◌≢◌}
 use Rattle.std.specs.Result.{IsErrAnd}
 use Rattle.x10_kinds.specs.declared.stop.Stop.{Stop}
 use Rattle.x10_kinds.specs.declared.stop.Stop.TheVariants as stop
 use Rattle.x10_copy.specs.declared.refusal.Refusal.{Refusal}
 use Rattle.x10_copy.specs.declared.refusal.Refusal.TheVariants as refusal
-use Rattle.x10_verify.specs.Certified.{Certified}
 use Rattle.x10_place.specs.Receiving.{IsRefusedBytes}
 use Rattle.x10_place.specs.StandsFor.{PlaceState, IsHindered}
 use Rattle.x10_hall.specs.Halls.{PostedFrame, Numbered}
@@ -15,12 +14,8 @@ use Rattle.x10_hall.specs.declared.port.PostFault.{PostFault}
 use Rattle.x10_hall.specs.declared.port.PostFault.TheVariants as posting
 use Rattle.x10_workers.specs.declared.halt.Halt.{Halt}
 use Rattle.x10_workers.specs.declared.halt.Halt.TheVariants as halt
-use Rattle.x10_workers.specs.declared.halt.WorkFault.{WorkFault}
-use Rattle.x10_workers.specs.declared.jobs.Failure.{Failure}
-use Rattle.x10_workers.specs.declared.jobs.Failure.TheVariants as failure
 use Rattle.x10_workers.specs.declared.trail.OwnTurn.{OwnTurn}
 use Rattle.x10_workers.specs.Halts.{halt_of_fault, halt_of_refusal}
-use Rattle.x10_workers.specs.Reports.{TellsFailure}
 use Rattle.x10_place.specs.Messages.{no_sent}
 use Rattle.x10_place.specs.Stretches.{Strides}
 use Rattle.x10_place.specs.Sweeps.{Sweeps, unswept, swept, quietly, IsHaltedSweep}
@@ -28,7 +23,7 @@ use Rattle.x10_workers.proofs.SweepTrails.{sweeps_to_each}
 use Rattle.x10_workers.proofs.WorkLemmas.{strides_each}
 use Rattle.x10_workers.specs.Trails.{frames_sent, TakesEach, StepsEach, TrailLeads}
 use Rattle.x10_workers.specs.Workings.{WorksOn}
-use Rattle.x10_workers.specs.Causes.{GoesTo, IsCauseOf, Halts, IsFailureOf, IsCausedAt}
+use Rattle.x10_workers.specs.Causes.{GoesTo, IsCauseOf, Halts}
 use Rattle.x10_workers.specs.Causes.GoesTo.{stays, takes, steps}
 
 -- ---- where a place goes
@@ -101,33 +96,10 @@ pub told_as : {T : Type 0} (r : Result T Halt) (why : Halt) (P : Halt → Type 0
 told_as (Ok x) why P e h = absurd e
 told_as (Err made) why P e h = subst P (sym e) h
 
-pub failed_as : {T : Type 0} (r : Result T Failure) (why : Failure) (P : Failure → Type 0) → IsErrAnd r (λ made. made ≡ why) → P why → IfErr r P
-failed_as (Ok x) why P e h = absurd e
-failed_as (Err made) why P e h = subst P (sym e) h
-
--- ---- what a run answers
-
--- the fault that is told of a failure has its cause
-pub caused_by : (c : Certified) (places : ℕ) (f : Failure) (told : WorkFault) → TellsFailure f told → IsFailureOf c places f → IsCausedAt c places told
-caused_by c places failure.Memory told tells of = subst (λ t. IsCausedAt c places t) (sym tells) tt
-caused_by c places failure.Thread told tells of = subst (λ t. IsCausedAt c places t) (sym tells) tt
-caused_by c places (failure.Worker place (halt.Stop why)) told tells of = elim tells [
-  | inl memory ↦ subst (λ t. IsCausedAt c places t) (sym memory) tt
-  | inr stopped ↦ subst (λ t. IsCausedAt c places t) (sym stopped.1) of
-]
-caused_by c places (failure.Worker place halt.Turns) told tells of = elim tells [
-  | inl memory ↦ subst (λ t. IsCausedAt c places t) (sym memory) tt
-  | inr (report, inl turns) ↦ subst (λ t. IsCausedAt c places t) (sym turns) tt
-  | inr (report, inr differs) ↦ subst (λ t. IsCausedAt c places t) (sym differs) tt
-]
-caused_by c places (failure.Worker place (halt.Refused why)) told tells of = elim tells [
-  | inl memory ↦ subst (λ t. IsCausedAt c places t) (sym memory) tt
-  | inr refused ↦ subst (λ t. IsCausedAt c places t) (sym refused) of
-]
-caused_by c places (failure.Worker place halt.Ended) told tells of = elim tells [
-  | inl memory ↦ subst (λ t. IsCausedAt c places t) (sym memory) tt
-  | inr ended ↦ subst (λ t. IsCausedAt c places t) (sym ended) tt
-]
+-- a worker that stopped for a reason, or since its turns weren't posted
+pub halted_as : (p : PlaceState) (why told : Halt) → (told ≡ why) ⊎ ((q : PlaceState) → Halts q told) → Halts p why → Halts p told
+halted_as p why told (inl same) h = subst (λ w. Halts p w) (sym same) h
+halted_as p why told (inr lost) h = lost p
 
 -- ---- what stops a place
 

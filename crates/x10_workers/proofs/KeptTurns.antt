@@ -9,7 +9,7 @@ use Rattle.x10_verify.specs.Certified.{Certified}
 use Rattle.x10_place.specs.Opening.{IsNew, Opens}
 use Rattle.x10_place.specs.StandsFor.{PlaceState}
 use Rattle.x10_world.specs.Opening.{IsOpenedPlace, IsForbidden}
-use Rattle.x10_workers.specs.declared.halt.Halt.{Halt}
+use Rattle.x10_workers.specs.declared.halt.Halted.{Halted}
 use Rattle.x10_workers.specs.declared.trail.Kept.{Kept}
 use Rattle.x10_workers.specs.declared.trail.OwnTurn.{OwnTurn}
 use Rattle.x10_workers.specs.declared.trail.Trail.{Trail}
@@ -19,7 +19,7 @@ use Rattle.x10_workers.specs.Workings.{IsTrailOf, IsKeptOf, AreAllKept, AreTrail
 use Rattle.x10_workers.proofs.ReplayFaults.{front, behind}
 
 -- each with what it kept
-abbrev pub all_ended : List Kept → List (Result Kept Halt)
+abbrev pub all_ended : List Kept → List (Result Kept Halted)
 all_ended trails = map (λ t. Ok t) trails
 
 length_ended : (trails : List Kept) → length (all_ended trails) ≡ length trails
@@ -32,7 +32,7 @@ ended_at (u ∷ us) zero t is = ap (λ v. Some (Ok v)) (same_Some u t is)
 ended_at (u ∷ us) (suc id) t is = ended_at us id t is
 
 -- where all workers have ended, this is what they kept
-pub trails_of : (c : Certified) (places : ℕ) (ends rest : List (Result Kept Halt)) (trails : List Kept) → ends ≡ all_ended trails ++ rest → rest ≡ []
+pub trails_of : (c : Certified) (places : ℕ) (ends rest : List (Result Kept Halted)) (trails : List Kept) → ends ≡ all_ended trails ++ rest → rest ≡ []
     → AreAllEnds c places ends → AreAllKept c places trails
 trails_of c places ends rest trails are none ended = record {
   count = sym (ap length same ∙ length_ended trails) ∙ ended.count;

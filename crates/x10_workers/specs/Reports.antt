@@ -1,6 +1,7 @@
 -- What the reports of a run tell that failed.
-use Rattle.std.specs.Prelude.{◌≡◌, ◌⊎◌, ℕ, ◌<◌, ◌==◌, List, [], ◌++◌, length, map, Some, slice_get, if◌then◌else◌}
+use Rattle.std.specs.Prelude.{◌≡◌, ◌≢◌, ◌⊎◌, ℕ, ◌<◌, ◌==◌, List, [], ◌++◌, length, map, Some, slice_get, if◌then◌else◌}
 use Rattle.std.specs.List.{flat_map}
+use Rattle.x10_kinds.specs.declared.stop.Stop.TheVariants as stop
 use Rattle.x10_model.specs.Places.{Line}
 use Rattle.x10_place.specs.StandsFor.{line_as}
 use Rattle.x10_hall.specs.declared.turn.Turn.{Turn}
@@ -37,20 +38,23 @@ abbrev pub IsOfRun : Failure → Type 0
 IsOfRun (failure.Worker place why) = ⊥
 IsOfRun f = Unit {0}
 
--- the fault that is told of a worker that stopped; or memory for the report was refused
+-- The fault that is told of a worker that stopped; or memory for the report was refused. Where the log doesn't lead to a limit of
+-- the place, or the place refused a frame, the log differs from what the worker did.
 abbrev pub TellsHalt : ℕ → Halt → WorkFault → Type 0
 TellsHalt place (halt.Stop why) told = (told ≡ fault.Memory)
-    ⊎ ((report : RunReport) × (told ≡ fault.Stop place why report))
+    ⊎ (((report : RunReport) × (told ≡ fault.Stop place why report))
+    ⊎ ((why ≢ stop.Memory) × ((number : ℕ) × (told ≡ fault.Differs number))))
 TellsHalt place halt.Turns told = (told ≡ fault.Memory) ⊎ ((report : RunReport)
     × ((told ≡ fault.Turns report) ⊎ (told ≡ fault.Differs (length report.log.items))))
-TellsHalt place (halt.Refused why) told = (told ≡ fault.Memory) ⊎ (told ≡ fault.Refused place why)
+TellsHalt place (halt.Refused why) told = (told ≡ fault.Memory) ⊎ ((report : RunReport)
+    × (told ≡ fault.Differs (length report.log.items)))
 TellsHalt place halt.Ended told = (told ≡ fault.Memory) ⊎ (told ≡ fault.Thread)
 
 -- the fault that is told of what failed
 abbrev pub TellsFailure : Failure → WorkFault → Type 0
 TellsFailure failure.Memory told = told ≡ fault.Memory
 TellsFailure failure.Thread told = told ≡ fault.Thread
-TellsFailure (failure.Worker place halt) told = TellsHalt place halt told
+TellsFailure (failure.Worker place halted) told = TellsHalt place halted.why told
 
 -- what a fault tells of a run: its report has the lines of its log; at the limit of turns the log has so many
 abbrev pub IsTold : ℕ → ℕ → WorkFault → Type 0

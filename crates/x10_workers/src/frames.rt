@@ -5,7 +5,7 @@ ghost use Rattle.x10_workers.specs.Trails.{frame_sent, frames_sent};
 
 use std::alloc::{AllocError, Global};
 use std::sync::Arc;
-use x10_hall::{Posted, Taken};
+use x10_hall::Posted;
 use x10_place::{Outgoing, Sent};
 
 /// Puts out a frame, if there is one.
@@ -39,15 +39,6 @@ pub(crate) fn put_sent(
 {
     put_frame(alloc, sent.message, frames)?;
     put_frame(alloc, sent.report, frames)
-}
-
-/// The numbers of frames.
-pub(crate) fn numbers_of(alloc: Global, taken: &[Taken]) -> Result<Vec<u64>, AllocError> {
-    let mut numbers = Vec::with_capacity(alloc, taken.len())?;
-    for frame in taken {
-        numbers.push(frame.number)?;
-    }
-    Ok(numbers)
 }
 
 /// The same frames again, which share their bytes with the first ones.

@@ -8,7 +8,7 @@ use crate::report::RunReport;
 use std::alloc::AllocError;
 use thiserror::Error;
 use x10_copy::Refusal;
-use x10_hall::PostFault;
+use x10_hall::{Keys, PostFault};
 use x10_kinds::Stop;
 
 /// Why a worker stopped before the run had ended.
@@ -26,6 +26,42 @@ pub enum Halt {
     /// Another worker had stopped the run.
     #[error("Ended")]
     Ended,
+}
+
+/// A turn that a worker has begun and not ended.
+#[derive(Drop)]
+pub(crate) struct Begun {
+    /// The numbers of the frames that were taken, also of one that was refused.
+    pub(crate) taken: Vec<u64>,
+    /// Where a step was refused, the keys of the steps up to this one. Those of steps that were to follow may stand behind them.
+    pub(crate) keys: Keys,
+}
+
+/// How a worker stopped.
+#[derive(Drop)]
+pub(crate) struct Halted {
+    pub(crate) why: Halt,
+    /// The turn in which it stopped, if all before it were posted.
+    pub(crate) begun: Option<Begun>,
+}
+
+impl From<Stop> for Halted {
+    ghost from_gives = { λ why made. made.why ≡ halt.Stop why };
+
+    fn from(why: Stop) -> Halted {
+        Halted {
+            why: Halt::Stop(why),
+            begun: None,
+        }
+    }
+}
+
+impl From<AllocError> for Halted {
+    ghost from_gives = { λ _ made. made.why ≡ halt.Stop stop.Memory };
+
+    fn from(_error: AllocError) -> Halted {
+        Halted::from(Stop::Memory)
+    }
 }
 
 impl From<Stop> for Halt {
@@ -76,10 +112,10 @@ pub enum WorkFault {
     Stop(u16, Stop, RunReport),
     /// As many turns were posted as were asked for.
     Turns(RunReport),
-    /// A place refused a frame that was posted to it.
+    /// A place refused a frame that was posted to it. `run_threads` never returns this: such a run is one whose log differs.
     Refused(u16, Refusal),
-    /// This turn of the log isn't what the worker of its place did; the number of all turns where none differs, but a worker
-    /// made another one, or some activity may be left.
+    /// This turn of the log isn't what the worker of its place did. The number of all turns where none differs, but a worker made
+    /// another one, some activity may be left, or a place stopped at a limit or refused a frame, and the log shows no cause.
     Differs(usize),
     /// Memory was refused outside a turn.
     Memory,

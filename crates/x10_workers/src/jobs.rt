@@ -1,10 +1,10 @@
 //! Jobs, each in a thread of its own.
 ghost use Rattle.std.specs.Prelude.{◌≡◌, ℕ, ◌<◌, IfErr, IfOk, Some, Result, length, slice_get, vec_len};
-ghost use Rattle.x10_workers.specs.declared.halt.Halt as halt;
+ghost use Rattle.x10_workers.specs.declared.halt.Halted as halted;
 ghost use Rattle.x10_workers.specs.declared.trail.Kept as kept;
 ghost use Rattle.x10_workers.specs.Reports.{IsOfRun};
 
-use crate::halt::Halt;
+use crate::halt::Halted;
 use crate::trail::Kept;
 use std::alloc::{AllocError, Global};
 use std::sync::Wait;
@@ -12,10 +12,10 @@ use std::thread;
 use std::thread::{Promise, Threads};
 
 /// Why the workers did not end well.
-#[derive(Clone, Copy, Debug, PartialEq, Eq)]
+#[derive(Drop)]
 pub(crate) enum Failure {
     /// The worker of a place stopped, by itself.
-    Worker(u16, Halt),
+    Worker(u16, Halted),
     /// Memory for the threads' handles, or for what they hand over, was refused.
     Memory,
     /// A worker could not be started.
@@ -37,15 +37,15 @@ impl From<AllocError> for Failure {
 /// type parameter does.
 pub(crate) trait Job {
     ghost use Rattle.std.specs.Prelude.{ℕ, Result};
-    ghost use Rattle.x10_workers.specs.declared.halt.Halt.{Halt};
+    ghost use Rattle.x10_workers.specs.declared.halt.Halted.{Halted};
     ghost use Rattle.x10_workers.specs.declared.trail.Kept.{Kept};
 
     ghost asks: { Self → ℕ → Type 0 };
 
-    ghost gives: { Self → ℕ → Result Kept Halt → Type 0 };
+    ghost gives: { Self → ℕ → Result Kept Halted → Type 0 };
 
     /// The work of one place.
-    fn make(&self, id: u16) -> Result<Kept, Halt>
+    fn make(&self, id: u16) -> Result<Kept, Halted>
         requires { Self.asks self.now id }
         ensures { Self.gives self.now id result };
 
@@ -61,7 +61,7 @@ struct Given<'j, J: Job> {
     id: u16,
 }
 
-impl<'j, J: Job> Promise<Result<Kept, Halt>> for Given<'j, J> {
+impl<'j, J: Job> Promise<Result<Kept, Halted>> for Given<'j, J> {
     ghost kept_by = { λ p end. J.gives p.job.now p.id end };
 }
 
@@ -79,10 +79,10 @@ pub(crate) fn make_all<R: Threads + Wait + Sync, J: Job + Sync>(
     alloc: Global,
     count: u16,
     job: &J,
-) -> Result<Vec<Result<Kept, Halt>>, Failure>
+) -> Result<Vec<Result<Kept, Halted>>, Failure>
     requires { (id : ℕ) → id < count → J.asks job.now id }
     ensures count { IfOk result (λ ends. length ends.items ≡ count) }
-    ensures each { IfOk result (λ ends. (id : ℕ) (end : Result kept.Kept halt.Halt)
+    ensures each { IfOk result (λ ends. (id : ℕ) (end : Result kept.Kept halted.Halted)
         → slice_get ends.items id ≡ Some end → J.gives job.now id end) }
     ensures failure { IfErr result IsOfRun }
 {
@@ -90,17 +90,17 @@ pub(crate) fn make_all<R: Threads + Wait + Sync, J: Job + Sync>(
     thread::scope(
         thread::scope_env(),
         rt,
-        move |scope| -> Result<Vec<Result<Kept, Halt>>, Failure>
+        move |scope| -> Result<Vec<Result<Kept, Halted>>, Failure>
             requires { ((id : ℕ) → id < count → J.asks job.now id) × (vec_len handles ≡ 0) }
             ensures count { IfOk result (λ ends. length ends.items ≡ count) }
-            ensures each { IfOk result (λ ends. (id : ℕ) (end : Result kept.Kept halt.Halt)
+            ensures each { IfOk result (λ ends. (id : ℕ) (end : Result kept.Kept halted.Halted)
                 → slice_get ends.items id ≡ Some end → J.gives job.entry.now id end) }
             ensures failure { IfErr result IsOfRun }
         {
             for id in 0..count {
                 let started = scope.spawn_with(
                     Given { job, id },
-                    move || -> Result<Kept, Halt>
+                    move || -> Result<Kept, Halted>
                         requires { J.asks job.now id }
                         ensures { J.gives job.entry.now id result }
                     { job.make(id) },

@@ -1,18 +1,20 @@
 //! A thread for each place.
 ghost use Rattle.std.specs.Prelude.{◌≡◌, ◌≢◌, ◌<◌, ◌≤◌, ◌↔◌, ℕ, IfOk, IfErr, IfSome, IsErrOf, length};
-ghost use Rattle.x10_workers.specs.Reports.{IsTold, TellsFailure};
+ghost use Rattle.x10_workers.specs.Reports.{AreLinesBy, IsTold, TellsFailure, TellsHalt};
+ghost use Rattle.x10_workers.specs.declared.halt.Halt.TheVariants as halt;
 ghost use Rattle.x10_workers.specs.declared.halt.WorkFault.TheVariants as fault;
 ghost use Rattle.x10_workers.specs.Plays.{IsPlayed};
 ghost use Rattle.x10_workers.specs.Weaves.{AreWithin};
-ghost use Rattle.x10_workers.specs.Causes.{AreAllEnds, IsCausedAt, IsFailureOf};
+ghost use Rattle.x10_workers.specs.Causes.{AreAllEnds, IsCausedAt};
 ghost use Rattle.x10_workers.specs.Workings.{AreTrails, AreAllKept, AreTrailsOf};
 ghost use Rattle.x10_verify.specs.Certified.{Certified};
 ghost use Rattle.x10_world.specs.Endings.{lines_in};
 ghost use Rattle.x10_world.specs.Opening.{IsForbidden};
 
+use crate::auditing::stop_after;
 use crate::fault::AuditFault;
 use crate::gate::Gate;
-use crate::halt::{Halt, WorkFault};
+use crate::halt::{Begun, Halt, Halted, WorkFault};
 use crate::jobs::{Failure, Job, make_all};
 use crate::lines::lines_by_place;
 use crate::report::RunReport;
@@ -22,7 +24,8 @@ use crate::working::kept_of;
 use std::alloc::Global;
 use std::sync::Wait;
 use std::thread::Threads;
-use x10_hall::{Desk, End, Mail, Port, Repeats, Turn};
+use x10_hall::{Desk, Mail, Port, Repeats, Turn};
+use x10_kinds::Stop;
 use x10_model::limits::MOST_PLACES;
 use x10_verify::Verified;
 
@@ -45,49 +48,60 @@ impl<R: Wait, G: Gate> Job for Workers<'_, '_, R, G> {
 
     ghost gives = { λ w id end. IsEndOf w.verified.now w.places id end };
 
-    fn make(&self, id: u16) -> Result<Kept, Halt> {
-        let desk = Desk::new(self.rt, self.mail);
+    fn make(&self, id: u16) -> Result<Kept, Halted> {
+        let mut desk = Desk::new(self.rt, self.mail);
         kept_of(
             self.rt,
             self.alloc,
             self.verified,
             id,
             self.places,
-            &desk,
+            &mut desk,
             self.gate,
         )
     }
 
     fn stop(&self) {
-        let desk = Desk::new(self.rt, self.mail);
-        desk.end(End::Stopped);
+        let mut desk = Desk::new(self.rt, self.mail);
+        desk.stop();
     }
 }
 
-/// The first failure that is a worker's own, of the workers of so many places.
-fn first_failure(places: u16, ends: &[Result<Kept, Halt>]) -> Option<Failure>
-    ensures { (c : Certified) (count : ℕ) → AreAllEnds c count ends.now
-        → IfSome result (IsFailureOf c count) }
+/// The place of the first worker that failed by itself, of those of so many places.
+fn first_failed(places: u16, ends: &[Result<Kept, Halted>]) -> Option<u16>
+    ensures { IfSome result (λ place. place < length ends.now) }
 {
     for place in 0..places {
-        if let Some(Err(halt)) = ends.get(usize::from(place)) {
-            if *halt != Halt::Ended {
-                return Some(Failure::Worker(place, *halt));
+        if let Some(Err(halted)) = ends.get(usize::from(place)) {
+            if halted.why != Halt::Ended {
+                return Some(place);
             }
         }
     }
     None
 }
 
-/// What all workers kept, or why one of them has nothing.
-fn gathered(alloc: Global, places: u16, ends: Vec<Result<Kept, Halt>>) -> Result<Vec<Kept>, Failure>
-    ensures kept { (c : Certified) (count : ℕ) → AreAllEnds c count ends.items
-        → IfOk result (λ kept. AreAllKept c count kept.items) }
-    ensures failure { (c : Certified) (count : ℕ) → AreAllEnds c count ends.items
-        → IfErr result (IsFailureOf c count) }
+/// How the worker of a place failed.
+fn failure_at(place: u16, mut ends: Vec<Result<Kept, Halted>>) -> Failure
+    requires { place < length ends.items }
 {
-    if let Some(failure) = first_failure(places, &ends) {
-        return Err(failure);
+    match ends.swap_remove(usize::from(place)) {
+        Err(halted) => Failure::Worker(place, halted),
+        Ok(_) => Failure::Thread,
+    }
+}
+
+/// What all workers kept, or why one of them has nothing.
+fn gathered(
+    alloc: Global,
+    places: u16,
+    ends: Vec<Result<Kept, Halted>>,
+) -> Result<Vec<Kept>, Failure>
+    ensures { (c : Certified) (count : ℕ) → AreAllEnds c count ends.items
+        → IfOk result (λ kept. AreAllKept c count kept.items) }
+{
+    if let Some(place) = first_failed(places, &ends) {
+        return Err(failure_at(place, ends));
     }
     let mut all = Vec::with_capacity(alloc, ends.len())?;
     for end in ends {
@@ -109,8 +123,7 @@ fn trails_from<'a>(
     all: Vec<Kept>,
 ) -> Result<Vec<Trail<'a>>, Failure>
     requires { AreAllKept verified.now places all.items }
-    ensures trails { IfOk result (λ trails. AreTrailsOf verified.now places trails.items) }
-    ensures failure { IfErr result (IsFailureOf verified.now places) }
+    ensures { IfOk result (λ trails. AreTrailsOf verified.now places trails.items) }
 {
     let mut trails = Vec::with_capacity(alloc, all.len())?;
     for kept in all {
@@ -158,8 +171,7 @@ fn all_trails<'a, R: Threads + Wait + Sync, G: Gate + Sync>(
 ) -> Result<Vec<Trail<'a>>, Failure>
     requires enough { verified.now.program.least_places ≤ places }
     requires few { places ≤ 64 }
-    ensures trails { IfOk result (λ trails. AreTrailsOf verified.now places trails.items) }
-    ensures failure { IfErr result (IsFailureOf verified.now places) }
+    ensures { IfOk result (λ trails. AreTrailsOf verified.now places trails.items) }
 {
     let workers = Workers {
         rt,
@@ -174,35 +186,75 @@ fn all_trails<'a, R: Threads + Wait + Sync, G: Gate + Sync>(
     trails_from(alloc, verified, places, all)
 }
 
+/// The fault of a run in which a place's worker stopped for this reason. A limit is only reported where the turns of the log, and
+/// then the turn that the worker had begun, lead to it again. Whether memory is refused again can't be tried.
+fn stop_of(
+    alloc: Global,
+    verified: &Verified,
+    place: u16,
+    why: Stop,
+    begun: Option<Begun>,
+    places: u16,
+    report: RunReport,
+) -> WorkFault
+    requires permitted { IsForbidden verified.now places → ⊥ }
+    requires lines { AreLinesBy places report.log.items (lines_in report.outputs.items) }
+    ensures places { result ≢ fault.Places }
+    ensures told { (turns : ℕ) → IsTold places turns result }
+    ensures tells { TellsHalt place (halt.Stop why) result }
+    ensures caused { IsCausedAt verified.now places result }
+{
+    if why == Stop::Memory {
+        return WorkFault::Stop(place, why, report);
+    }
+    let Some(Begun { taken, keys }) = begun else {
+        return WorkFault::Differs(report.log.len());
+    };
+    let turn = Turn {
+        place,
+        taken,
+        keys,
+        frames: Vec::new(alloc),
+        lines: Vec::new(alloc),
+    };
+    match stop_after(alloc, verified, places, &report.log, &turn) {
+        Ok(stop) if stop == why => WorkFault::Stop(place, why, report),
+        Err(AuditFault::Differs(number)) => WorkFault::Differs(number),
+        Err(AuditFault::Stop(Stop::Memory)) => WorkFault::Memory,
+        _ => WorkFault::Differs(report.log.len()),
+    }
+}
+
 /// The fault of a run that failed, with a report of the turns that were posted.
 fn fault_of(
     alloc: Global,
+    verified: &Verified,
     places: u16,
     turns: u64,
     failure: Failure,
     log: Repeats<Turn>,
 ) -> WorkFault
+    requires permitted { IsForbidden verified.now places → ⊥ }
     ensures places { result ≢ fault.Places }
     ensures told { IsTold places turns result }
     ensures tells { TellsFailure failure result }
-    ensures caused { (c : Certified) → IsFailureOf c places failure
-        → IsCausedAt c places result }
+    ensures caused { IsCausedAt verified.now places result }
 {
-    let Failure::Worker(place, halt) = failure else {
-        return match failure {
-            Failure::Memory => WorkFault::Memory,
-            _ => WorkFault::Thread,
-        };
+    let (place, halted) = match failure {
+        Failure::Worker(place, halted) => (place, halted),
+        Failure::Memory => return WorkFault::Memory,
+        Failure::Thread => return WorkFault::Thread,
     };
     let Ok(outputs) = lines_by_place(alloc, places, &log) else {
         return WorkFault::Memory;
     };
     let report = RunReport { outputs, log };
-    match halt {
-        Halt::Stop(stop) => WorkFault::Stop(place, stop, report),
+    let Halted { why, begun } = halted;
+    match why {
+        Halt::Stop(stop) => stop_of(alloc, verified, place, stop, begun, places, report),
         Halt::Turns if report.log.len() as u64 == turns => WorkFault::Turns(report),
         Halt::Turns => WorkFault::Differs(report.log.len()),
-        Halt::Refused(why) => WorkFault::Refused(place, why),
+        Halt::Refused(_) => WorkFault::Differs(report.log.len()),
         Halt::Ended => WorkFault::Thread,
     }
 }
@@ -210,7 +262,9 @@ fn fault_of(
 /// Runs a module at `places` places, each in a thread of its own, until no activity is left, or `turns` turns were posted.
 /// Places hand each other nothing but frames. What a place did in a turn is posted to one log, and kept by its worker. Where
 /// the run has ended, the log is compared with what the workers kept: so an Ok carries a log that is a run of the machine, with
-/// its outputs. It has at most `turns` turns, each as short as `x10_log` reads it. The gate is notified of each turn. May wait: nothing is promised about when, or whether, it returns.
+/// its outputs. It has at most `turns` turns, each as short as `x10_log` reads it. Where a place stops at a limit, the log is
+/// made again by one thread, to see that it leads there. The gate is notified of each turn. May wait: nothing is promised about when, or
+/// whether, it returns.
 pub fn run_threads<R: Threads + Wait + Sync, G: Gate + Sync>(
     rt: &R,
     alloc: Global,
@@ -236,6 +290,6 @@ pub fn run_threads<R: Threads + Wait + Sync, G: Gate + Sync>(
     let log = mail.into_hall().into_log();
     match trails {
         Ok(trails) => finished(alloc, &trails, log, turns),
-        Err(failure) => Err(fault_of(alloc, places, turns, failure, log)),
+        Err(failure) => Err(fault_of(alloc, verified, places, turns, failure, log)),
     }
 }

@@ -1,20 +1,21 @@
 //! A worker: one place, and the turns that it makes.
-ghost use Rattle.std.specs.Prelude.{◌≡◌, ◌≢◌, ◌+◌, ◌<◌, ◌≤◌, ◌^◌, ◌++◌, ◌∷◌, [], true, false, IsTrue, IfOk, IfErr, length, map};
+ghost use Rattle.std.specs.Prelude.{◌≡◌, ◌≢◌, ◌+◌, ◌<◌, ◌≤◌, ◌^◌, ◌++◌, ◌∷◌, ◌⊎◌, [], true, false, IsTrue, IfOk, IfErr, length, map};
 ghost use Rattle.x10_hall.specs.Halls.{frame_of, told};
 ghost use Rattle.x10_hall.specs.declared.limits.TheConstants.{MOST_TAKEN, MOST_STEPS};
+ghost use Rattle.x10_place.specs.StandsFor.{PlaceState};
 ghost use Rattle.x10_workers.specs.Causes.{Halts};
 ghost use Rattle.x10_workers.specs.Trails.{TakesFrame, TakesEach, StepsEach};
 ghost use Rattle.x10_workers.specs.Workings.{AddsSteps, WorksOn, KeepsTurn, IsKeptWhole};
 
 use crate::frames::put_sent;
 use crate::gate::Gate;
-use crate::halt::Halt;
+use crate::halt::{Begun, Halt, Halted};
 use crate::lines::push_copies;
 use crate::step_order::StepOrder;
 use crate::trail::{Kept, OwnTurn};
 use std::alloc::{AllocError, Global};
 use x10_hall::limits::{MOST_STEPS, MOST_TAKEN};
-use x10_hall::{End, Keys, Port, Posted, Repeats, Stint, Take, Taken};
+use x10_hall::{Keys, Port, Posted, Repeats, Stint, Take, Taken};
 use x10_place::{Place, Stepped, Sweep};
 use x10_world::copied_lines;
 
@@ -53,6 +54,8 @@ pub(crate) struct Worker<'a> {
     round: Vec<usize>,
     /// How many turns the gate was notified of.
     turns: u64,
+    /// The turn that is being made.
+    begun: Begun,
     kept: Repeats<OwnTurn>,
     /// The last of them, in the form of the log, which are still to be posted.
     unposted: Vec<Stint>,
@@ -86,6 +89,10 @@ impl<'a> Worker<'a> {
             order,
             round: Vec::new(alloc),
             turns: 0,
+            begun: Begun {
+                taken: Vec::new(alloc),
+                keys: Keys::none(),
+            },
             kept: Repeats::new(alloc),
             unposted: Vec::new(alloc),
             waiting: 0,
@@ -139,7 +146,7 @@ impl<'a> Worker<'a> {
             return Ok(());
         }
         self.post(port)?;
-        port.end(End::Finished);
+        port.finish();
         self.has_ended = true;
         Ok(())
     }
@@ -157,6 +164,24 @@ impl<'a> Worker<'a> {
             lines,
             closed,
         })
+    }
+
+    /// How it stopped, with the turn that it had begun. The turns before are posted first. Where they can't be, this is why it
+    /// stopped.
+    pub fn into_halted(mut self, why: Halt, port: &impl Port) -> Halted
+        ensures { (result.why ≡ why) ⊎ ((p : PlaceState) → Halts p result.why) }
+    {
+        if let Err(lost) = self.post(port) {
+            return Halted {
+                why: lost,
+                begun: None,
+            };
+        }
+        let Worker { begun, .. } = self;
+        Halted {
+            why,
+            begun: Some(begun),
+        }
     }
 
     /// Takes in the frames that are there, up to the most that a turn takes. While turns are still to be posted it takes none, so
@@ -197,6 +222,8 @@ impl<'a> Worker<'a> {
         ensures kept { self.new.kept ≡ self.old.kept }
     {
         taken.reserve(1)?;
+        self.begun.taken.reserve(1)?;
+        self.begun.taken.push_reserved(frame.number);
         let vacant = self.place.vacant_key();
         self.place.receive(&frame.bytes)?;
         self.order.came(&self.place, vacant)?;
@@ -230,9 +257,28 @@ impl<'a> Worker<'a> {
                 steps.went = Went::Idle;
                 return Ok(steps);
             };
-            self.make_some(key, &mut steps)?;
+            if let Err(why) = self.make_some(key, &mut steps) {
+                self.note_refused(key, steps.keys)?;
+                return Err(why);
+            }
         }
         Ok(steps)
+    }
+
+    /// Notes the keys of a turn of which a step was refused, and behind them those that were tried last, from `key` on.
+    fn note_refused(&mut self, key: usize, mut keys: Keys) -> Result<(), AllocError>
+        ensures place { self.new.place ≡ self.old.place }
+        ensures kept { self.new.kept ≡ self.old.kept }
+    {
+        let most = usize::from(MOST_STEPS).saturating_sub(keys.len());
+        if self.order.is_single() {
+            keys.push(self.alloc, key, most)?;
+        } else {
+            let count = most.min(self.round.len());
+            push_keys(self.alloc, &self.round[..count], &mut keys)?;
+        }
+        self.begun.keys = keys;
+        Ok(())
     }
 
     /// A step of the activity with a key; where no other activity can move, as many steps as the turn may still make; and where

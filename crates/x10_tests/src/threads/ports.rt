@@ -6,7 +6,7 @@ use std::alloc::{AllocError, Global};
 use std::sync::{Arc, Mutex, Wait};
 use std::test::*;
 use x10_copy::Refusal;
-use x10_hall::{Desk, End, Mail, Port, PostFault, Repeats, Signal, Stint, Take, Taken, Turn};
+use x10_hall::{Desk, Mail, Port, PostFault, Repeats, Signal, Stint, Take, Taken, Turn};
 use x10_verify::Verified;
 use x10_workers::{AuditFault, Halt, Open, Trail, weave, work};
 
@@ -115,8 +115,12 @@ impl<R: Wait> Port for Odd<'_, R> {
         self.brief.is_stopped()
     }
 
-    fn end(&self, how: End) {
-        self.brief.end(how);
+    fn finish(&self) {
+        self.brief.finish();
+    }
+
+    fn stop(&mut self) {
+        self.brief.stop();
     }
 }
 
@@ -135,7 +139,7 @@ fn worked<'a, R: Wait>(
     alloc: Global,
     verified: &'a Verified<'a>,
     id: u16,
-    port: &Odd<'_, R>,
+    port: &mut Odd<'_, R>,
 ) -> Option<Result<Trail<'a>, Halt>> {
     verified.certificate();
     let places = verified.image().least();
@@ -169,8 +173,8 @@ fn run_oddly<'a, R: Wait>(
     let mut trails = Vec::new(alloc);
     let mut halt = None;
     for (id, manner) in [(0, Manner::Plain), (1, manner)] {
-        let port = port_at(rt, alloc, &mail, manner);
-        match worked(rt, alloc, verified, id, &port) {
+        let mut port = port_at(rt, alloc, &mail, manner);
+        match worked(rt, alloc, verified, id, &mut port) {
             Some(Ok(trail)) => trails.push(trail)?,
             Some(Err(why)) => halt = Some(why),
             None => return Err("there are two places".into()),

@@ -4,7 +4,7 @@ use std::alloc::Global;
 use std::sync::Wait;
 use std::sync::atomic::{AtomicU64, Ordering};
 use std::test::*;
-use x10_hall::{Desk, End, Mail, Port, PostFault, Signal, Stint, Take};
+use x10_hall::{Desk, Mail, Port, PostFault, Signal, Stint, Take};
 use x10_verify::Verified;
 use x10_workers::{Gate, Halt, Open, Trail, work};
 
@@ -125,7 +125,11 @@ impl Port for Counting {
         self.is_stopped
     }
 
-    fn end(&self, _how: End) {
+    fn finish(&self) {
+        self.ends.fetch_add(1, Ordering::SeqCst);
+    }
+
+    fn stop(&mut self) {
         self.ends.fetch_add(1, Ordering::SeqCst);
     }
 }
@@ -135,7 +139,7 @@ fn worked<'a>(
     rt: &impl Wait,
     alloc: Global,
     verified: &'a Verified<'a>,
-    port: &impl Port,
+    port: &mut impl Port,
     gate: &impl Gate,
 ) -> Option<Result<Trail<'a>, Halt>> {
     if verified.image().least() > 1 {
@@ -166,8 +170,8 @@ fn steps<R: Wait>(rt: &R, alloc: Global, text: &str, keys: &[usize]) -> Result<b
     let bytes = assembled(alloc, text)?;
     let verified = verified_of(alloc, &bytes)?;
     let mail = Mail::new(alloc, 1, 1_000)?;
-    let desk = Desk::new(rt, &mail);
-    let Some(Ok(trail)) = worked(rt, alloc, &verified, &desk, &Open) else {
+    let mut desk = Desk::new(rt, &mail);
+    let Some(Ok(trail)) = worked(rt, alloc, &verified, &mut desk, &Open) else {
         return Err("there is no trail".into());
     };
     Ok(begins_with(&trail, keys))
@@ -195,12 +199,12 @@ fn called(
     let gate = Noting {
         digits: AtomicU64::new(0),
     };
-    let port = Counting {
+    let mut port = Counting {
         is_stopped,
         waits: AtomicU64::new(0),
         ends: AtomicU64::new(0),
     };
-    let halt = match worked(rt, alloc, &verified, &port, &gate) {
+    let halt = match worked(rt, alloc, &verified, &mut port, &gate) {
         Some(ended) => ended.err(),
         None => return Err("there is one place".into()),
     };
@@ -221,8 +225,8 @@ fn counted<R: Wait>(rt: &R, alloc: Global, most: u64) -> Result<(Option<usize>, 
     let bytes = assembled(alloc, LONG)?;
     let verified = verified_of(alloc, &bytes)?;
     let mail = Mail::new(alloc, 1, most)?;
-    let desk = Desk::new(rt, &mail);
-    let kept = match worked(rt, alloc, &verified, &desk, &Open) {
+    let mut desk = Desk::new(rt, &mail);
+    let kept = match worked(rt, alloc, &verified, &mut desk, &Open) {
         Some(Ok(trail)) => Some(trail.turns().len()),
         _ => None,
     };

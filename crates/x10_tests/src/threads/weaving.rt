@@ -6,7 +6,7 @@ use crate::sources::{assembled, verified_of};
 use std::alloc::Global;
 use std::sync::Wait;
 use std::test::*;
-use x10_hall::{Desk, End, Mail, Port, PostFault, Repeats, Signal, Stint, Take, Turn};
+use x10_hall::{Desk, Mail, Port, PostFault, Repeats, Signal, Stint, Take, Turn};
 use x10_verify::Verified;
 use x10_workers::{AuditFault, Halt, Open, Trail, weave, work};
 
@@ -54,7 +54,9 @@ impl Port for Full {
         false
     }
 
-    fn end(&self, _how: End) {}
+    fn finish(&self) {}
+
+    fn stop(&mut self) {}
 }
 
 /// A port of a run that was stopped.
@@ -78,7 +80,9 @@ impl Port for Closed {
         true
     }
 
-    fn end(&self, _how: End) {}
+    fn finish(&self) {}
+
+    fn stop(&mut self) {}
 }
 
 /// A port at which nobody waits: where there is nothing to take, the run has ended.
@@ -110,7 +114,9 @@ impl<R: Wait> Port for Brief<'_, R> {
         self.desk.is_stopped()
     }
 
-    fn end(&self, _how: End) {}
+    fn finish(&self) {}
+
+    fn stop(&mut self) {}
 }
 
 /// The work of the only place, with a port.
@@ -118,7 +124,7 @@ fn worked<'a>(
     rt: &impl Wait,
     alloc: Global,
     verified: &'a Verified<'a>,
-    port: &impl Port,
+    port: &mut impl Port,
 ) -> Option<Result<Trail<'a>, Halt>> {
     if verified.image().least() > 1 {
         return None;
@@ -133,8 +139,8 @@ fn run_alone<'a, R: Wait>(
     verified: &'a Verified<'a>,
 ) -> Result<Kept<'a>, Fail> {
     let mail = Mail::new(alloc, 1, 1_000)?;
-    let desk = Desk::new(rt, &mail);
-    let Some(Ok(trail)) = worked(rt, alloc, verified, &desk) else {
+    let mut desk = Desk::new(rt, &mail);
+    let Some(Ok(trail)) = worked(rt, alloc, verified, &mut desk) else {
         return Err("there is no trail".into());
     };
     let mut trails = Vec::new(alloc);
@@ -154,10 +160,10 @@ fn run_in_turn<'a, R: Wait>(
     }
     let mail = Mail::new(alloc, 2, 1_000)?;
     let desk = Desk::new(rt, &mail);
-    let brief = Brief::new(desk);
+    let mut brief = Brief::new(desk);
     let mut trails = Vec::new(alloc);
     for id in 0..2u16 {
-        match work(rt, alloc, verified, id, 2, &brief, &Open) {
+        match work(rt, alloc, verified, id, 2, &mut brief, &Open) {
             Ok(trail) => trails.push(trail)?,
             Err(_) => return Err("there is no trail".into()),
         }
@@ -227,9 +233,9 @@ fn changed(rt: HostRuntime) -> Result<(), Fail> {
 fn other_ports(rt: HostRuntime) -> Result<(), Fail> {
     let bytes = assembled(rt.alloc(), OWN)?;
     let verified = verified_of(rt.alloc(), &bytes)?;
-    let full = worked(&rt, rt.alloc(), &verified, &Full);
+    let full = worked(&rt, rt.alloc(), &verified, &mut Full);
     assert!(rt; matches!(full, Some(Err(Halt::Turns))));
-    let closed = worked(&rt, rt.alloc(), &verified, &Closed);
+    let closed = worked(&rt, rt.alloc(), &verified, &mut Closed);
     assert!(rt; matches!(closed, Some(Err(Halt::Ended))));
     Ok(())
 }

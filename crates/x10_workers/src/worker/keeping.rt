@@ -1,9 +1,10 @@
 //! What a worker keeps of its turns, and posts of them.
 ghost use Rattle.std.specs.Prelude.{◌≡◌, IsTrue, IfErr, IfOk};
+ghost use Rattle.x10_place.specs.StandsFor.{PlaceState};
 ghost use Rattle.x10_workers.specs.Causes.{Halts};
 ghost use Rattle.x10_workers.specs.Workings.{IsSilent, AreAlike, IsAgain, KeepsTurn};
 
-use crate::frames::{numbers_of, shared};
+use crate::frames::shared;
 use crate::halt::Halt;
 use crate::trail::OwnTurn;
 use crate::worker::{MOST_UNPOSTED, Worker};
@@ -94,7 +95,7 @@ impl<'a> Worker<'a> {
     pub fn post(&mut self, port: &impl Port) -> Result<(), Halt>
         ensures place { self.new.place ≡ self.old.place }
         ensures kept { self.new.kept ≡ self.old.kept }
-        ensures halts { IfErr result (Halts self.old.place) }
+        ensures halts { IfErr result (λ why. (p : PlaceState) → Halts p why) }
     {
         if self.unposted.is_empty() {
             return Ok(());
@@ -105,11 +106,15 @@ impl<'a> Worker<'a> {
         Ok(())
     }
 
-    /// A turn in the form of the log.
-    fn told(&self, own: &OwnTurn) -> Result<Turn, AllocError> {
+    /// The turn that was just made, in the form of the log.
+    fn told(&mut self, own: &OwnTurn) -> Result<Turn, AllocError>
+        ensures place { self.new.place ≡ self.old.place }
+        ensures kept { self.new.kept ≡ self.old.kept }
+    {
+        let taken = mem::replace(&mut self.begun.taken, Vec::new(self.alloc));
         Ok(Turn {
             place: self.id,
-            taken: numbers_of(self.alloc, &own.taken)?,
+            taken,
             keys: own.keys.copied(self.alloc)?,
             frames: shared(self.alloc, &own.frames)?,
             lines: copied_lines(self.alloc, &own.lines)?,

@@ -1,14 +1,10 @@
-use Rattle.std.proofs.Common.{rules, ◌≡◌, sym, subst}
-use Rattle.x10_workers.specs.Causes.{AreAllEnds}
+use Rattle.std.proofs.Common.{rules, ◌≡◌}
 use Rattle.std.specs.Vec.Iter.{into_iter_items, into_iter_len}
 use Rattle.x10_workers.proofs.KeptTurns.{trails_of, none_left}
 use Rattle.x10_workers.proofs.threads.gathered.Goals as goal
 
-pub returns-clause-kept : goal.returns-clause-kept
-returns-clause-kept c cert places are =
+pub returns : goal.returns
+returns c cert places are =
     let end : into_iter_len c.loop-end.end-iterator ≡ 0 = search rules in
     trails_of cert places c.args.ends.items (into_iter_items c.loop-end.end-iterator) c.loop-end.all.items c.loop-end.invariant.same
     (none_left (into_iter_items c.loop-end.end-iterator) (into_iter_len c.loop-end.end-iterator) c.loop-end.invariant.steps end) are
-
-pub returns-in-Some-clause-failure : goal.returns-in-Some-clause-failure
-returns-in-Some-clause-failure c = λ v n ends. c.in-Some.ensures v n (subst (λ es. AreAllEnds v n es) (sym c.deref.ensures.value) ends)

@@ -26,8 +26,8 @@ loop-kept-preserved c = record {
     pushed : c.push.new.self.items ≡ c.loop-kept.trails.items ++ c.new.result ∷ []
     pushed = search rules
 
-pub returns-clause-trails : goal.returns-clause-trails
-returns-clause-trails c = made_all c.args.verified.now c.args.places c.args.all.items c.loop-kept.trails.items
+pub returns : goal.returns
+returns c = made_all c.args.verified.now c.args.places c.args.all.items c.loop-kept.trails.items
     (into_iter_items c.loop-kept.kept-iterator) c.requires c.loop-kept.invariant.so_far
     (none_left (into_iter_items c.loop-kept.kept-iterator) (into_iter_len c.loop-kept.kept-iterator) c.loop-kept.invariant.steps
     c.in-None.ensures.steps.0)

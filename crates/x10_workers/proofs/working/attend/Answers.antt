@@ -36,10 +36,7 @@ returns-in_err-end-clause-halts g c = told_as c.from_residual-in_err-end.result 
 
 pub returns-in_err-post-clause-halts : goal.returns-in_err-post-clause-halts
 returns-in_err-post-clause-halts g c = told_as c.from_residual-in_err-post.result c.in_err-post.field-0.0 (Halts c.args.worker.now.place)
-    c.from_residual-in_err-post.ensures.1 (halts_worked c.args.worker.now.place c.turn.new.self.place c.args.worker.now.kept.items
-    c.turn.new.self.kept.items c.in_err-post.field-0.0 (goes_further c.args.worker.now.place c.loop.worker.place c.turn.new.self.place
-    c.args.worker.now.kept.items c.loop.worker.kept.items c.turn.new.self.kept.items c.loop.invariant c.in_ok-went.ensures.works)
-    (subst (λ p. Halts p c.in_err-post.field-0.0) c.end.ensures.place c.in_err-post.ensures.halts))
+    c.from_residual-in_err-post.ensures.1 (c.in_err-post.ensures.halts c.args.worker.now.place)
 
 pub returns-in-Stopped-clause-halts : goal.returns-in-Stopped-clause-halts
 returns-in-Stopped-clause-halts g c = ended_halts c.args.worker.now.place

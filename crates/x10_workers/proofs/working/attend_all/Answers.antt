@@ -1,6 +1,7 @@
 use Rattle.std.proofs.Common.{[], inr, subst}
 use Rattle.x10_workers.specs.Causes.{Halts}
 use Rattle.x10_workers.specs.Workings.{WorksOn}
+use Rattle.x10_workers.proofs.CauseLemmas.{halted_as}
 use Rattle.x10_workers.proofs.KeptTurns.{kept_whole}
 use Rattle.x10_workers.proofs.working.attend_all.Goals as goal
 
@@ -16,5 +17,6 @@ pub returns-in-Err : goal.returns-in-Err
 returns-in-Err g c = inr (record {
   first = c.in_ok-place.place;
   opened = record { is_new = c.in_ok-place.ensures.fields; stands = c.in_ok-place.ensures.opening };
-  halts = subst (λ p. Halts p c.in-Err.halt) c.in_ok-worker.ensures.0 c.in-Err.ensures.halts;
+  halts = halted_as c.in_ok-place.place c.in-Err.why c.into_halted.result.why c.into_halted.ensures
+      (subst (λ p. Halts p c.in-Err.why) c.in_ok-worker.ensures.0 c.in-Err.ensures.halts);
 })

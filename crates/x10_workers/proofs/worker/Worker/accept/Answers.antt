@@ -9,6 +9,10 @@ pub returns-in_err-reserve-clause-halts : goal.returns-in_err-reserve-clause-hal
 returns-in_err-reserve-clause-halts c = told_as c.from_residual.result (halt.Stop stop.Memory) (Halts c.args.self.now.place) c.from_residual.ensures.1
     (memory_halts c.args.self.now.place)
 
+pub returns-in_err-reserve-2-clause-halts : goal.returns-in_err-reserve-2-clause-halts
+returns-in_err-reserve-2-clause-halts c = told_as c.from_residual-in_err-reserve-2.result (halt.Stop stop.Memory) (Halts c.args.self.now.place)
+    c.from_residual-in_err-reserve-2.ensures.1 (memory_halts c.args.self.now.place)
+
 pub returns-in_err-receive-clause-halts : goal.returns-in_err-receive-clause-halts
 returns-in_err-receive-clause-halts c = told_as c.from_residual-in_err-receive.result (halt_of_refusal c.in_err-receive.field-0.0) (Halts c.args.self.now.place)
     c.from_residual-in_err-receive.ensures.1

@@ -10,7 +10,7 @@ use Rattle.x10_workers.proofs.worker.Worker.make_steps.Goals as goal
 
 pub loop-preserved : goal.loop-preserved
 loop-preserved c =
-    let adds = c.in_ok-make_some.ensures.adds in
+    let adds = c.in_default-make_some.ensures.adds in
     let old = c.loop.invariant in
     record {
       steps = subst (λ ks. StepsEach c.args.self.now.place ks (map frame_of c.make_some.new.steps.frames.items) c.make_some.new.self.place)
@@ -20,7 +20,7 @@ loop-preserved c =
           (map frame_of c.loop.steps.frames.items) adds.out old.steps adds.steps));
       goes = adds.goes;
       still = λ e. let s = adds.still e in s.1 ∙ old.still s.0;
-      kept = c.in_ok-make_some.ensures.kept ∙ old.kept;
+      kept = c.in_default-make_some.ensures.kept ∙ old.kept;
       few = adds.few;
     }
 
@@ -28,7 +28,10 @@ pub returns-in_err-key-clause-halts : goal.returns-in_err-key-clause-halts
 returns-in_err-key-clause-halts c = told_as c.from_residual.result (halt.Stop stop.Memory) (Halts c.args.self.now.place) c.from_residual.ensures.1
     (memory_halts c.args.self.now.place)
 
-pub returns-in_err-make_some-clause-halts : goal.returns-in_err-make_some-clause-halts
-returns-in_err-make_some-clause-halts c = told_as c.from_residual-in_err-make_some.result c.in_err-make_some.field-0.0 (Halts c.args.self.now.place)
-    c.from_residual-in_err-make_some.ensures.1 (halts_stepped c.args.self.now.place c.loop.self.place c.loop.steps.keys (map frame_of c.loop.steps.frames.items)
-    c.in_err-make_some.field-0.0 c.loop.invariant.steps c.in_err-make_some.ensures.halts)
+pub returns-in-Err-clause-halts : goal.returns-in-Err-clause-halts
+returns-in-Err-clause-halts c = halts_stepped c.args.self.now.place c.loop.self.place c.loop.steps.keys (map frame_of c.loop.steps.frames.items)
+    c.in-Err.why c.loop.invariant.steps c.in-Err.ensures.halts
+
+pub returns-in_err-note_refused-clause-halts : goal.returns-in_err-note_refused-clause-halts
+returns-in_err-note_refused-clause-halts c = told_as c.from_residual-in_err-note_refused.result (halt.Stop stop.Memory)
+    (Halts c.args.self.now.place) c.from_residual-in_err-note_refused.ensures.1 (memory_halts c.args.self.now.place)
