@@ -3,12 +3,11 @@
 ; $ x10p verify explain.x10
 ; status 1: verify: Home 0 0
 ; $ x10p explain Home
-; verify: Home: nothing says that the home is here, or at the place where the
-; reference goes.
+; verify: Home: the home isn't known to be here, or where the reference goes.
 ; ..
-; There are three repairs. Ask first: `IFHERE 0 @else`. Go to the home: `HOME 1
-; 0`, then AT with register 1, to a function with a parameter `here:0`. Or give
-; the parameter the flag, `here:0`: then the caller has to know it.
+; Test it: `IFHERE 0 @else`. Or go there: `HOME 1 0`, then AT with register 1, to
+; a function with a parameter `here:0`. Or flag the parameter, `here:0`, so that
+; the caller must know it.
 ; $ x10p explain trailing
 ; image: Trailing. Bytes after the last function.
 ; ..

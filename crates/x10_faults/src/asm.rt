@@ -1,6 +1,6 @@
 //! What the page of faults says of a cause. Written by `make` beside `src` from docs/FAULTS.md; change that, not this.
 
-pub(crate) const WORD: &str = "asm: Word: a first word that isn't known.
+pub(crate) const WORD: &str = "asm: Word: an unknown word.
 
     ; $ x10p asm word.asm word.x10
     ; status 1: asm: line 5 Word
@@ -12,12 +12,12 @@ pub(crate) const WORD: &str = "asm: Word: a first word that isn't known.
     entry 0
 
 Names of instructions are in capitals: `PRINT 0`. Word is also an unknown kind
-(`integer`, `here:0` in a class), ATOMB or ATOME without `version 2`, and a tab:
-only spaces separate words.
+(`integer`, `here:0` in a class), ATOMB or ATOME without `version 2`, and a tab,
+since only spaces separate words.
 ";
 
 pub(crate) const NUMBER: &str =
-    "asm: Number: a word that should be a number. Here `--explain` marks the word:
+    "asm: Number: not a number, or one out of range. `--explain` marks the word:
 
     ; $ x10p asm --explain number.asm number.x10
     ; status 1: asm: line 8 Number
@@ -32,9 +32,9 @@ pub(crate) const NUMBER: &str =
     end
     entry 0
 
-There are only whole decimal numbers: `int 7`. Number is also what doesn't fit
-into its field (an `int` above 2^63 - 1, an operand above 255), a class that
-isn't there (`obj:3` with three classes), and `@label` where there is no jump.
+Write a whole decimal number: `int 7`. Number is also an `int` above 2^63 - 1,
+an operand above 255, a class that doesn't exist (`obj:3` with three classes),
+and `@label` outside of a jump.
 ";
 
 pub(crate) const COUNT: &str = "asm: Count: too few or too many words.
@@ -49,8 +49,7 @@ pub(crate) const COUNT: &str = "asm: Count: too few or too many words.
     end
     entry 0
 
-`INTK 0 0`: the register and the constant. docs/INSTRUCTIONS.md has the operands
-of each instruction.
+Write `INTK 0 0`, register and constant. docs/INSTRUCTIONS.md has the operands.
 
 asm: Count again: a comment after an instruction.
 
@@ -65,10 +64,10 @@ asm: Count again: a comment after an instruction.
     end
     entry 0
 
-A comment needs a line of its own. Where an operand is missing, as in `INTK 0 ;
-seven`, this is Number.
+Put the comment on a line of its own. If an operand is missing too, as in `INTK
+0 ; seven`, the cause is Number.
 
-image: Count. A number outside its range; here the least number of places is 0.
+image: Count. A number out of range; here the least number of places is 0.
 
     ; $ x10p verify least.x10
     ; status 1: image: Count
@@ -77,7 +76,7 @@ image: Count. A number outside its range; here the least number of places is 0.
 log: Count: more than 16 frames taken in, or more than 64 steps.
 ";
 
-pub(crate) const ORDER: &str = "asm: Order: a line out of order, or one that is missing.
+pub(crate) const ORDER: &str = "asm: Order: a line is out of order or missing.
 
     ; $ x10p asm order.asm order.x10
     ; status 1: asm: line 7 Order
@@ -87,13 +86,13 @@ pub(crate) const ORDER: &str = "asm: Order: a line out of order, or one that is 
     end
 
 Add `entry 0`. A missing line is reported after the last one. The order is
-`places`, all `class`, all `int`, all `text`, the functions, `entry`.
+`places`, classes, ints, texts, functions, `entry`.
 
-frame: Order. The texts, rails and objects aren't numbered as they are first
-used, one is never used, or there are too many of something.
+frame: Order. Texts, rails and objects aren't numbered by first use, one is
+never used, or there are too many.
 ";
 
-pub(crate) const LABEL: &str = "asm: Label: unknown, there twice, or not well formed.
+pub(crate) const LABEL: &str = "asm: Label: unknown, defined twice, or ill-formed.
 
     ; $ x10p asm label.asm label.x10
     ; status 1: asm: line 5 Label
@@ -105,7 +104,7 @@ pub(crate) const LABEL: &str = "asm: Label: unknown, there twice, or not well fo
     end
     entry 0
 
-`JMP @out`. A label is known in its own function only.
+Write `JMP @out`. A label is known only in its own function.
 ";
 
 pub(crate) const TEXT: &str = "asm: Text: quotes, escapes, or too many bytes.
@@ -119,7 +118,7 @@ pub(crate) const TEXT: &str = "asm: Text: quotes, escapes, or too many bytes.
     end
     entry 0
 
-Close the quotes. Inside them the escapes are `\\\"`, `\\\\` and `\\n`.
+Close the quotes. The escapes are `\\\"`, `\\\\` and `\\n`.
 
 image: Text. A text isn't UTF-8.
 
@@ -131,7 +130,7 @@ image: Text. A text isn't UTF-8.
 frame: Text. A text isn't UTF-8.
 ";
 
-pub(crate) const LIMIT: &str = "asm: Limit: a number beyond what a module may have.
+pub(crate) const LIMIT: &str = "asm: Limit: more than a module may have.
 
     ; $ x10p asm many.asm many.x10
     ; status 1: asm: line 4 Limit
@@ -141,11 +140,10 @@ pub(crate) const LIMIT: &str = "asm: Limit: a number beyond what a module may ha
     end
     entry 0
 
-A function has 1 to 64 registers, and not fewer than parameters; for the other
-ranges see docs/FORMATS.md. A function without an instruction is Limit at its
-`end`.
+A function has 1 to 64 registers, and not fewer than parameters (all ranges
+(docs/FORMATS.md)). A function without instructions is Limit at its `end`.
 
-limit: as many events were made as `--limit` permits, and the run isn't over.
+limit: the run isn't over after the events that `--limit` permits.
 
     ; $ x10p run endless.x10 --limit 100
     ; status 2: limit
@@ -156,11 +154,10 @@ limit: as many events were made as `--limit` permits, and the run isn't over.
     end
     entry 0
 
-Each activity here ends, but first it starts another one. Where a run is just
-long, give a greater `--limit` (without one it is 1,000,000); idle events count
-too.
+Each activity here starts another one before it ends. If a run is just long,
+give a greater `--limit` (default 1,000,000). Idle events count too.
 
-stop: Limit n: a count of the machine would be passed.
+stop: Limit n: a limit of the machine would be exceeded.
 
     ; $ x10p run list.x10 --limit 3000000
     ; status 2: stop: Limit 7
@@ -185,12 +182,12 @@ stop: Limit n: a count of the machine would be passed.
     end
     entry 1
 
-1,048,577 objects are too many for one frame: send them in parts. Of all limits
-(docs/PROGRAM.md) a program can meet this one, 8 (texts) and 9 (rails).
+1,048,577 objects are too many for one frame: send them in parts. A program can
+also meet the limits 8 (texts) and 9 (rails); see all limits (docs/LIMITS.md).
 ";
 
 pub(crate) const ENTRY: &str =
-    "asm: Entry: the entry function isn't there, or has a parameter or a result.
+    "asm: Entry: the entry function doesn't exist, or has a parameter or a result.
 
     ; $ x10p asm main.asm main.x10
     ; status 1: asm: line 7 Entry
@@ -200,10 +197,9 @@ pub(crate) const ENTRY: &str =
     end
     entry 0
 
-Main takes nothing and gives nothing: `func 1 0 none`.
+Main takes and returns nothing: `func 1 0 none`.
 
-image: Entry. No function has the entry's number, or it has a parameter or a
-result.
+image: Entry. The entry function doesn't exist, or has a parameter or a result.
 
     ; $ x10p verify entry.x10
     ; status 1: image: Entry

@@ -1,17 +1,17 @@
 //! What the page of faults says of a cause. Written by `make` beside `src` from docs/FAULTS.md; change that, not this.
 
-pub(crate) const SHORT: &str = "image: Short. The bytes end too early: a file that was cut off.
+pub(crate) const SHORT: &str = "image: Short. The bytes end too early: the file was cut off.
 
     ; $ x10p verify short.x10
     ; status 1: image: Short
     58313050
 
-frame: Short. The bytes end too early: some of the digits weren't copied.
+frame: Short. The bytes end too early: some digits weren't copied.
 ";
 
 pub(crate) const MAGIC: &str =
     "image: Magic. The first four bytes aren't \"X10P\": another kind of file, such as
-a text given to `run`.
+a text whose name doesn't end in `.asm`.
 
     ; $ x10p verify magic.x10
     ; status 1: image: Magic
@@ -24,11 +24,10 @@ pub(crate) const VERSION: &str = "image: Version. A version other than 1 and 2.
     ; status 1: image: Version
     58313050 0003 0001 0000 0000 0000 0001 0000 0000
 
-frame: Version. A version other than 1 and 2: an image begins otherwise, and so
-does a log.
+frame: Version. A version other than 1 and 2: the bytes aren't a frame.
 ";
 
-pub(crate) const RESERVED: &str = "image: Reserved. A 0 of the layout that isn't 0.
+pub(crate) const RESERVED: &str = "image: Reserved. A reserved field isn't 0.
 
     ; $ x10p verify reserved.x10
     ; status 1: image: Reserved
@@ -37,8 +36,7 @@ pub(crate) const RESERVED: &str = "image: Reserved. A 0 of the layout that isn't
 
 pub(crate) const CODE: &str =
     "image: Code f pc. Instruction pc of function f has an unknown code, one of
-version 2 in an image of version 1, or a number where the instruction has no
-operand.
+version 2 in version 1, or an unused operand that isn't 0.
 
     ; $ x10p verify code.x10
     ; status 1: image: Code 0 0

@@ -1,7 +1,7 @@
 //! What the page of faults says of a cause. Written by `make` beside `src` from docs/FAULTS.md; change that, not this.
 
 pub(crate) const HEAD: &str =
-    "log: Head. One of the first three lines is another one: the file isn't a log.
+    "log: Head. One of the first three lines is wrong: the file isn't a log.
 
     ; $ x10p audit head.x10 head.asm
     ; status 1: log: line 1 Head
@@ -13,16 +13,16 @@ pub(crate) const HEAD: &str =
 ";
 
 pub(crate) const IMAGE: &str =
-    "log: Image: the log is that of another image. A change of the text, even of the
-order of its constants, makes another image.
+    "log: Image: the log of another image. Any change of the module makes another
+image.
 ";
 
 pub(crate) const PLACE: &str =
-    "log: Place: the number of places isn't 1 to 64, or a turn's line doesn't begin
-with the number of a place.
+    "log: Place: the number of places isn't 1 to 64, or a turn doesn't begin with a
+place.
 
-frame: Place. A place that isn't below the number of places, or a Report of
-another number of places: `--places` is another number than that of the run.
+frame: Place. A place that isn't below the number of places, or a Report for
+another number of places: `--places` isn't that of the run.
 
     ; $ x10p frame 02040001000000000000000200000000000000000000000100000000 --places 3
     ; status 1: frame: Place
@@ -43,25 +43,22 @@ another number of places: `--places` is another number than that of the run.
     entry 0
 ";
 
-pub(crate) const TAKEN: &str = "log: Taken: a frame that was taken in isn't `<` and a number.
+pub(crate) const TAKEN: &str = "log: Taken: a frame taken in isn't `<` and a number.
 ";
 
 pub(crate) const KEY: &str = "log: Key: a step isn't a key, or a key, a star and a number.
 ";
 
 pub(crate) const FRAME: &str =
-    "log: Frame: a frame that was put out isn't `>`, a place, a colon and hexadecimal
-digits.
+    "log: Frame: a frame sent isn't `>`, a place, a colon and hexadecimal digits.
 ";
 
 pub(crate) const PRINTED: &str =
     "log: Printed: a printed line isn't `=` and a number, or a text in quotes.
 ";
 
-pub(crate) const SPELLING: &str =
-    "log: Spelling: the line says a turn, but in other words than a log does.
+pub(crate) const SPELLING: &str = "log: Spelling: a turn, but not in its one spelling.
 ";
 
-pub(crate) const ENDING: &str =
-    "log: Ending: the last line doesn't end with a line feed. The log was cut off.
+pub(crate) const ENDING: &str = "log: Ending: the last line has no line feed: the log was cut off.
 ";

@@ -14,12 +14,12 @@ pub(crate) const PLACES: &str = "places: the module doesn't run at this number o
     end
     entry 0
 
-Give at least as many as the line `places` says.
+Give at least the number in the line `places`.
 ";
 
 pub(crate) const TURNS: &str =
-    "turns: with `--threads`, as many turns of workers were posted as `--limit`
-permits, and a worker had one more.
+    "turns: with `--threads`, the run isn't over after the turns that `--limit`
+permits.
 
     ; $ x10p run turns.x10 --threads --limit 100
     ; 0: 1
@@ -38,8 +38,8 @@ permits, and a worker had one more.
     end
     entry 1
 
-Like `limit`, but turns are counted: in one, a worker takes in at most 16 frames
-and makes at most 64 steps. What these turns printed comes before the line.
+Like `limit`, but it counts turns of workers, each of at most 16 frames and 64
+steps. The output of these turns comes before the line.
 ";
 
 pub(crate) const FILE: &str = "file, and usage.
@@ -58,41 +58,37 @@ pub(crate) const FILE: &str = "file, and usage.
     entry 0
 
 `file`: a file can't be read or written, or a text isn't UTF-8. Status 3: the
-command line is wrong, and the line says where; `x10p run --help` has them.
+command line is wrong, and the line says where; see `x10p run --help`.
 ";
 
 pub(crate) const THREAD: &str =
-    "thread: with `--threads`, a worker couldn't be started. Use fewer places, or let
-the system permit more threads (`ulimit -u`).
+    "thread: with `--threads`, a worker couldn't be started. Use fewer places, or
+permit more threads (`ulimit -u`).
 ";
 
 pub(crate) const REFUSED: &str =
-    "refused: place p, and differs: turn t: with `--threads`, place p didn't take a
-frame that was posted to it, or turn t of the log isn't what the worker of its
-place did. The mistake is in x10p, not in the module: report it with the image.
-No such program is known.
+    "refused: place p, and differs: turn t: with `--threads`, place p refused a
+frame, or turn t of the log isn't what its worker did. This is a bug of x10p,
+not of the module: report it with the image. No case is known.
 ";
 
 pub(crate) const DIFFERS: &str =
-    "refused: place p, and differs: turn t: with `--threads`, place p didn't take a
-frame that was posted to it, or turn t of the log isn't what the worker of its
-place did. The mistake is in x10p, not in the module: report it with the image.
-No such program is known.
+    "refused: place p, and differs: turn t: with `--threads`, place p refused a
+frame, or turn t of the log isn't what its worker did. This is a bug of x10p,
+not of the module: report it with the image. No case is known.
 
-differs: turn t, and open: from `audit`, or with `--log` from `trace` and
-`draw`, turn t of the log isn't what its place does then, where the first turn
-is turn 0; or no turn differs, and the run isn't over after the last. The log
-isn't one of a run that has ended: it was changed, or the run was stopped.
+differs: turn t, and open: from `audit`, or from `trace` and `draw` with
+`--log`: turn t of the log, from 0, isn't what its place does then; or the run
+isn't over after the last turn. The log was changed, or its run was stopped.
 ";
 
 pub(crate) const OPEN: &str =
-    "differs: turn t, and open: from `audit`, or with `--log` from `trace` and
-`draw`, turn t of the log isn't what its place does then, where the first turn
-is turn 0; or no turn differs, and the run isn't over after the last. The log
-isn't one of a run that has ended: it was changed, or the run was stopped.
+    "differs: turn t, and open: from `audit`, or from `trace` and `draw` with
+`--log`: turn t of the log, from 0, isn't what its place does then; or the run
+isn't over after the last turn. The log was changed, or its run was stopped.
 ";
 
 pub(crate) const MEMORY: &str =
-    "stop: Memory, and memory: a run, or a command outside a run, got no memory. The
-program makes too much: nothing is removed during a run.
+    "stop: Memory, and memory: out of memory, in a run or outside. Nothing is removed
+from heaps during a run: make less.
 ";

@@ -1,8 +1,8 @@
 //! What the page of faults says of a cause. Written by `make` beside `src` from docs/FAULTS.md; change that, not this.
 
 pub(crate) const NESTING: &str =
-    "verify: Structure Nesting: a RET in a finish or an atomic region, or an opener
-and a closer that don't belong together.
+    "verify: Structure Nesting: a RET in a finish or atomic region, or openers and
+closers that don't match.
 
     ; $ x10p verify nesting.x10
     ; status 1: verify: Structure Nesting 0 1
@@ -15,13 +15,13 @@ and a closer that don't belong together.
     end
     entry 0
 
-Jump to the FINE or the ATOME, and return after it. A function that doesn't end
-with RET is Nesting too.
+Jump to the FINE or ATOME, and return after it. A function that doesn't end with
+RET is Nesting too.
 ";
 
 pub(crate) const JUMP: &str =
-    "verify: Structure Jump: backward, into a loop, or into or out of a finish or an
-atomic region.
+    "verify: Structure Jump: backward, into a region, or out of a finish or atomic
+region.
 
     ; $ x10p verify jump.x10
     ; status 1: verify: Structure Jump 0 1
@@ -34,9 +34,8 @@ atomic region.
     end
     entry 0
 
-Only ENDL goes back. A loop \"until\" something holds is a counted loop with a
-jump past its ENDL. To leave a finish or an atomic region early, jump to its
-closer.
+Only ENDL goes back. For \"until\", use a counted loop and a jump past its ENDL.
+To leave a finish or atomic region early, jump to its closer.
 ";
 
 pub(crate) const LOOP_SLOT: &str =
@@ -54,12 +53,12 @@ outside 1 to 65,535.
     end
     entry 0
 
-The outermost loop has slot 0, a loop in it slot 1; ENDL has the slot of its
-LOOP. The second number of `func` says how many slots there are.
+The outermost loop has slot 0, a loop in it slot 1; ENDL repeats the slot. The
+second number of `func` is the number of slots.
 ";
 
 pub(crate) const CALL_ORDER: &str =
-    "verify: Structure CallOrder: a CALL or AT of a function that isn't above.
+    "verify: Structure CallOrder: CALL or AT of a function that isn't above.
 
     ; $ x10p verify recursion.x10
     ; status 1: verify: Structure CallOrder 0 0
@@ -70,8 +69,7 @@ pub(crate) const CALL_ORDER: &str =
     end
     entry 0
 
-Put the called function first. A function that would call itself has to start
-itself, by ASYNC or ATA.
+Put the called function first. Recursion needs ASYNC or ATA.
 ";
 
 pub(crate) const ATOMIC: &str =
@@ -90,8 +88,8 @@ region.
     end
     entry 0
 
-Start, go and wait before the ATOMB or after the ATOME, and write out inside
-what a called function does.
+Start, go and wait before the ATOMB or after the ATOME, and write out what a
+called function does.
 ";
 
 pub(crate) const TOO_LARGE: &str = "verify: Structure TooLarge: the bound is above 2^48.
@@ -112,6 +110,5 @@ pub(crate) const TOO_LARGE: &str = "verify: Structure TooLarge: the bound is abo
     end
     entry 0
 
-Use smaller counts. The bound assumes that all turns are made, even those that a
-jump skips.
+Use smaller counts. The bound assumes every turn, even those that a jump skips.
 ";

@@ -12,13 +12,11 @@ pub(crate) const INDEX: &str = "verify: Index: an operand names nothing.
     entry 0
 
 The function has one register, number 0. Index is also a constant, class or
-function that isn't there, arguments that go past the last register, and PLACEK
-of a place that `places` doesn't promise.
+function that doesn't exist, arguments past the last register, and PLACEK of a
+place that `places` doesn't guarantee.
 ";
 
-pub(crate) const UNSET: &str =
-    "verify: Unset: a register is read to which nothing was written, on at least one
-way.
+pub(crate) const UNSET: &str = "verify: Unset: a register is read that isn't set on every path.
 
     ; $ x10p verify unset.x10
     ; status 1: verify: Unset 0 3
@@ -33,12 +31,12 @@ way.
     end
     entry 0
 
-Set the register on every way that leads here. Where two ways come together with
-different kinds, it is unset too. No register is written on the way to a label:
-`DIV 2 0 1 @zero` sets register 2 only where it goes on.
+Set the register on every path that leads here. If two paths join with different
+kinds, it is unset too. A jump to a label writes nothing: `DIV 2 0 1 @zero` sets
+register 2 only if it doesn't jump.
 ";
 
-pub(crate) const KIND: &str = "verify: Kind: a register holds a kind other than the one asked for.
+pub(crate) const KIND: &str = "verify: Kind: a register holds another kind than required.
 
     ; $ x10p verify kind.x10
     ; status 1: verify: Kind 0 1
@@ -50,11 +48,11 @@ pub(crate) const KIND: &str = "verify: Kind: a register holds a kind other than 
     end
     entry 0
 
-PRINT takes a number or a text: put `PLACEI 0 0` first. The most common case is
-`opt:c` where `obj:c` is asked for: put IFOBJ before it.
+PRINT takes a number or a text: put `PLACEI 0 0` first. Most often `obj:c` is
+required and `opt:c` given: put IFOBJ first.
 
-image: Kind. A tag that is no kind, a class that isn't there, or a home flag
-where none may be.
+image: Kind. An unknown tag, a class that doesn't exist, or a misplaced home
+flag.
 
     ; $ x10p verify kinds.x10
     ; status 1: image: Kind
@@ -63,8 +61,7 @@ where none may be.
 ";
 
 pub(crate) const HOME: &str =
-    "verify: Home: nothing says that the home is here, or at the place where the
-reference goes.
+    "verify: Home: the home isn't known to be here, or where the reference goes.
 
     ; $ x10p verify home.x10
     ; status 1: verify: Home 0 0
@@ -79,14 +76,12 @@ reference goes.
     end
     entry 1
 
-There are three repairs. Ask first: `IFHERE 0 @else`. Go to the home: `HOME 1
-0`, then AT with register 1, to a function with a parameter `here:0`. Or give
-the parameter the flag, `here:0`: then the caller has to know it.
+Test it: `IFHERE 0 @else`. Or go there: `HOME 1 0`, then AT with register 1, to
+a function with a parameter `here:0`. Or flag the parameter, `here:0`, so that
+the caller must know it.
 ";
 
-pub(crate) const RESULT: &str =
-    "verify: Result: a result where there is none, or an activity that would give
-one.
+pub(crate) const RESULT: &str = "verify: Result: a result where there is none, or of an activity.
 
     ; $ x10p verify result.x10
     ; status 1: verify: Result 1 0
@@ -101,7 +96,7 @@ one.
     end
     entry 1
 
-Nobody waits for the result of an ASYNC or ATA: pass the activity an object, or
-a global reference, to put it into. Where a function has no result, the a of its
-RET, and of a CALL or AT of it, is 0.
+Nobody waits for the result of ASYNC or ATA: pass an object or a global
+reference to put it into. If a function has no result, the a of its RET, and of
+a CALL or AT of it, is 0.
 ";
