@@ -1,23 +1,20 @@
 //! The picture of a run: a space-time diagram of its events, as SVG.
 #![tactic(auto)]
 
-mod arrows;
-mod bars;
-mod column;
+mod columns;
 mod counts;
 mod drawing;
+mod elements;
 mod escape;
-mod frame_kind;
-mod geometry;
+mod grid;
 mod known;
-mod label;
 mod legend;
 mod page;
 mod parts;
-mod seen;
+mod rows;
 mod sketch;
-mod telling;
-mod texts;
+mod table;
+mod template;
 mod words;
 
 pub use counts::Counts;

@@ -3,16 +3,14 @@ ghost use Rattle.std.specs.Prelude.{◌≡◌, IfOk};
 ghost use Rattle.std.specs.String.{string_bytes};
 ghost use Rattle.x10_draw.specs.Pages.{IsPage};
 
-use crate::arrows::{push_arrow, push_fork};
-use crate::bars::{push_bracket, push_end, push_lifeline, push_numbers, push_span};
 use crate::counts::Counts;
-use crate::geometry::Grid;
-use crate::legend::{MARKERS, legend_of};
-use crate::seen::seen_in;
+use crate::elements::push_elements;
+use crate::grid::Grid;
+use crate::legend::push_legend;
+use crate::parts::Part;
 use crate::sketch::Sketch;
-use crate::texts::{push_break, push_ground, push_label, push_leader, push_mark};
+use crate::template::fill;
 use std::alloc::{AllocError, Global};
-use std::fmt::Write;
 
 /// How the document begins.
 const HEAD: &str =
@@ -28,6 +26,34 @@ const AROUND: u64 = 24;
 /// From the legend to the first row: the places' names and the lanes' numbers are there.
 const NAMES: u64 = 48;
 
+/// The first line: the counts, and which events are shown if there were some before them.
+const COUNTS: &str = "Places: $a. Steps: $b, frames taken in: $c, idle events: $d.";
+
+const PART: &str =
+    "Events $e to $f of the run. Places: $a. Steps: $b, frames taken in: $c, idle events: $d.";
+
+/// The size, the title, the heads of arrows, the first line, and the legend.
+const FRONT: &str =
+    r##"width="$a" height="$b" viewBox="0 0 $a $b" font-family="monospace" font-size="10">
+<title>The events of a run. Places: $c</title>
+<defs>
+<marker id="spawn" viewBox="0 0 8 8" refX="7" refY="4" markerUnits="userSpaceOnUse" markerWidth="8" markerHeight="8" orient="auto">
+<path d="M0 1L8 4L0 7z" fill="#00795c"/>
+</marker>
+<marker id="shift" viewBox="0 0 8 8" refX="7" refY="4" markerUnits="userSpaceOnUse" markerWidth="9" markerHeight="9" orient="auto">
+<path d="M0 1L8 4L0 7z" fill="#d55e00"/>
+</marker>
+<marker id="back" viewBox="0 0 8 8" refX="7" refY="4" markerUnits="userSpaceOnUse" markerWidth="8" markerHeight="8" orient="auto">
+<path d="M0 1L8 4L0 7z" fill="#8f3a84"/>
+</marker>
+<marker id="report" viewBox="0 0 8 8" refX="7" refY="4" markerUnits="userSpaceOnUse" markerWidth="8" markerHeight="8" orient="auto">
+<path d="M0 1L8 4L0 7z" fill="#777777"/>
+</marker>
+</defs>
+<rect width="$a" height="$b" fill="#ffffff"/>
+<text x="12" y="22" font-size="13" font-weight="bold">$A</text>
+$B"##;
+
 /// The picture of what was seen, with the counts of its events.
 pub(crate) fn page(alloc: Global, counts: Counts, sketch: &Sketch) -> Result<String, AllocError>
     ensures { IfOk result (λ text. IsPage (string_bytes text)) }
@@ -39,145 +65,58 @@ pub(crate) fn page(alloc: Global, counts: Counts, sketch: &Sketch) -> Result<Str
     Ok(text)
 }
 
-/// Everything between the head and the tail: the root's size first.
+/// Everything between the head and the tail.
 fn body(alloc: Global, counts: Counts, sketch: &Sketch) -> Result<String, AllocError> {
-    let places = sketch.columns.len();
-    let line = first_line(alloc, sketch.before, counts, places)?;
-    let least = FIRST
-        .saturating_mul(line.len() as u64)
-        .saturating_add(AROUND);
+    let line = first_line(alloc, sketch, counts)?;
+    let letters = line.len() as u64;
+    let least = FIRST.saturating_mul(letters).saturating_add(AROUND);
     let mut grid = Grid::new(alloc, &sketch.columns, least)?;
-    let legend = legend_of(alloc, seen_in(sketch), grid.width, places > 1, grid.shared)?;
-    grid.top = legend.y.saturating_add(NAMES);
-    let mut out = String::new(alloc);
-    push_all(&mut out, &grid, sketch, &line, &legend.text)?;
-    Ok(out)
-}
-
-/// All that is drawn, behind the first line and the legend.
-fn push_all(
-    out: &mut String,
-    grid: &Grid,
-    sketch: &Sketch,
-    line: &str,
-    legend: &str,
-) -> Result<(), AllocError> {
-    push_front(out, grid, sketch.columns.len(), line)?;
-    out.push_str(legend)?;
-    push_columns(out, grid, sketch)?;
-    push_events(out, grid, sketch)
+    let open = sketch.open_bars()?;
+    body_of(alloc, sketch, &line, &mut grid, &open)
 }
 
 /// The first line: which events are shown, where there were some before them, and the counts.
-fn first_line(
-    alloc: Global,
-    before: u64,
-    counts: Counts,
-    places: usize,
-) -> Result<String, AllocError> {
-    let (steps, taken, idle) = (counts.steps, counts.taken, counts.idle);
+fn first_line(alloc: Global, sketch: &Sketch, counts: Counts) -> Result<String, AllocError> {
+    let Counts { steps, taken, idle } = counts;
+    let places = sketch.columns.len() as u64;
+    let first = sketch.before.saturating_add(1);
+    let all = steps.saturating_add(taken).saturating_add(idle);
+    let last = sketch.before.saturating_add(all);
+    let template = if sketch.before > 0 { PART } else { COUNTS };
     let mut line = String::new(alloc);
-    if before > 0 {
-        let first = before.saturating_add(1);
-        let all = steps.saturating_add(taken).saturating_add(idle);
-        let last = before.saturating_add(all);
-        write!(line, "Events {first} to {last} of the run. ")?;
-    }
-    write!(
-        line,
-        "Places: {places}. Steps: {steps}, frames taken in: {taken}, idle events: {idle}."
+    fill(
+        &mut line,
+        template,
+        &[places, steps, taken, idle, first, last],
+        &[],
     )?;
     Ok(line)
 }
 
-/// The size, the title and the first line.
-fn push_front(out: &mut String, grid: &Grid, places: usize, line: &str) -> Result<(), AllocError> {
-    let width = grid.width;
+/// The same, where the columns are laid out, and the pieces of bars that haven't ended are known. The rows begin under the legend.
+fn body_of(
+    alloc: Global,
+    sketch: &Sketch,
+    line: &str,
+    grid: &mut Grid,
+    open: &[Part],
+) -> Result<String, AllocError> {
+    let mut seen = sketch.seen;
+    for bar in open {
+        seen.see(bar.shape);
+    }
+    let places = sketch.columns.len() as u64;
+    let mut legend = String::new(alloc);
+    let end = push_legend(&mut legend, seen, grid.width, places > 1, grid.shared)?;
+    grid.top = end.saturating_add(NAMES);
     let height = grid.y(grid.bottom).saturating_add(AROUND);
-    writeln!(
-        out,
-        "width=\"{width}\" height=\"{height}\" viewBox=\"0 0 {width} {height}\" font-family=\"monospace\" font-size=\"10\">"
+    let mut out = String::new(alloc);
+    fill(
+        &mut out,
+        FRONT,
+        &[grid.width, height, places],
+        &[line, &legend],
     )?;
-    writeln!(out, "<title>The events of a run. Places: {places}</title>")?;
-    out.push_str(MARKERS)?;
-    writeln!(
-        out,
-        "<rect width=\"{width}\" height=\"{height}\" fill=\"#ffffff\"/>"
-    )?;
-    writeln!(
-        out,
-        "<text x=\"12\" y=\"22\" font-size=\"13\" font-weight=\"bold\">{line}</text>"
-    )
-}
-
-/// Lifelines, and the bars of all stays with their brackets.
-fn push_columns(out: &mut String, grid: &Grid, sketch: &Sketch) -> Result<(), AllocError> {
-    for column in &sketch.columns {
-        push_lifeline(out, grid, column.place)?;
-        push_numbers(out, grid, column.place)?;
-    }
-    push_leaders(out, grid, sketch)?;
-    for span in &sketch.spans {
-        push_span(out, grid, *span)?;
-    }
-    for column in &sketch.columns {
-        for key in 0..column.lanes() {
-            if let Some(span) = column.rest(key, grid.bottom) {
-                push_span(out, grid, span)?;
-            }
-        }
-    }
-    push_breaks(out, grid, sketch)?;
-    for bracket in &sketch.brackets {
-        push_bracket(out, grid, *bracket)?;
-    }
-    for end in &sketch.ends {
-        push_end(out, grid, *end)?;
-    }
-    Ok(())
-}
-
-/// The lines from bars to labels, in one path.
-fn push_leaders(out: &mut String, grid: &Grid, sketch: &Sketch) -> Result<(), AllocError> {
-    out.push_str("<path stroke=\"#c8c8c8\" d=\"M0 0")?;
-    for label in &sketch.labels {
-        push_leader(out, grid, label)?;
-    }
-    writeln!(out, "\"/>")
-}
-
-/// Where bars are broken, in one path.
-fn push_breaks(out: &mut String, grid: &Grid, sketch: &Sketch) -> Result<(), AllocError> {
-    out.push_str("<path stroke=\"#ffffff\" stroke-width=\"3\" d=\"M0 0")?;
-    for label in &sketch.labels {
-        push_break(out, grid, label)?;
-    }
-    writeln!(out, "\"/>")
-}
-
-/// The grounds of labels, in one path: an arrow passes behind them.
-fn push_grounds(out: &mut String, grid: &Grid, sketch: &Sketch) -> Result<(), AllocError> {
-    out.push_str("<path fill=\"#ffffff\" d=\"M0 0")?;
-    for label in &sketch.labels {
-        push_ground(out, grid, label)?;
-    }
-    writeln!(out, "\"/>")
-}
-
-/// What began beside something, frames, the marks of events, and labels above all else.
-fn push_events(out: &mut String, grid: &Grid, sketch: &Sketch) -> Result<(), AllocError> {
-    for fork in &sketch.forks {
-        push_fork(out, grid, &sketch.labels, *fork)?;
-    }
-    for arrow in &sketch.arrows {
-        push_arrow(out, grid, &sketch.labels, *arrow)?;
-    }
-    for label in &sketch.labels {
-        push_mark(out, grid, label)?;
-    }
-    push_grounds(out, grid, sketch)?;
-    for label in &sketch.labels {
-        push_label(out, grid, label)?;
-    }
-    Ok(())
+    push_elements(&mut out, grid, sketch, open)?;
+    Ok(out)
 }

@@ -1,23 +1,32 @@
 //! How a drawing begins: with the stays that live in a world, and the frames that are in flight.
-use crate::column::{Column, State};
+use crate::columns::Column;
 use crate::known::Known;
-use crate::label::{Label, Tone};
-use crate::parts::Point;
+use crate::legend::NOTHING;
+use crate::parts::{Point, point_of};
 use crate::sketch::Sketch;
-use crate::telling::delivery_label;
+use crate::table::{Shape, Tone};
+use crate::template::Pushed;
 use std::alloc::{AllocError, Global};
 use x10_place::{Place, Stay};
 use x10_verify::Verified;
 use x10_world::World;
 
 /// What a stay that lives is doing, as far as it shows.
-fn state_of(stay: &Stay) -> State {
-    if stay.is_away() {
-        State::Away
-    } else if stay.is_inside() {
-        State::Inside
+fn doing_of(stay: &Stay) -> Shape {
+    match (stay.is_away(), stay.is_inside()) {
+        (true, _) => Shape::Away,
+        (_, true) => Shape::Inside,
+        _ => Shape::Working,
+    }
+}
+
+/// The stay of its own place that waits for the stay with a key.
+fn waiting_for(place: &Place, key: usize) -> Option<usize> {
+    let origin = place.stay(key)?.back()?;
+    if origin.place == place.id() {
+        Some(origin.key as usize)
     } else {
-        State::Working
+        None
     }
 }
 
@@ -36,13 +45,14 @@ impl<'a> Sketch<'a> {
             known: Known::new(alloc, verified, letters)?,
             before,
             first: world.posted(),
-            early: 0,
+            flights: Vec::new(alloc),
+            seen: NOTHING,
             columns: Vec::new(alloc),
-            spans: Vec::new(alloc),
-            arrows: Vec::new(alloc),
-            brackets: Vec::new(alloc),
-            forks: Vec::new(alloc),
+            bars: Vec::new(alloc),
+            finishes: Vec::new(alloc),
             ends: Vec::new(alloc),
+            forks: Vec::new(alloc),
+            arrows: Vec::new(alloc),
             labels: Vec::new(alloc),
         };
         sketch.open(world, shown)?;
@@ -50,135 +60,93 @@ impl<'a> Sketch<'a> {
     }
 
     /// All that is there at the beginning.
-    fn open(&mut self, world: &World, shown: u64) -> Result<(), AllocError> {
-        for place in 0..world.count() {
-            self.columns
-                .push(Column::new(self.known.alloc, place, shown))?;
+    fn open(&mut self, world: &World, shown: u64) -> Pushed {
+        for number in 0..world.count() {
+            let column = Column::new(self.known.alloc, number, shown)?;
+            self.columns.push(column)?;
+            if let Some(place) = world.place(number) {
+                self.settle(place)?;
+            }
+            self.fly(world, number)?;
+            self.expect(world, number);
         }
-        for place in 0..world.count() {
-            self.settle(world, place)?;
-            self.fly(world, place)?;
-            self.expect(world, place);
+        if self.before > 0 || !world.has_key(0, 0) {
+            return Ok(());
         }
-        self.early = self.arrows.len();
-        if self.before == 0 {
-            return self.label_main(world);
-        }
-        Ok(())
+        self.label_main(world, point_of(0, 0, 0))
     }
 
     /// The label of main.
-    fn label_main(&mut self, world: &World) -> Result<(), AllocError> {
-        let point = Point {
-            place: 0,
-            lane: Some(0),
-            row: 0,
-            label: None,
-        };
-        let Some(place) = world.place(0) else {
-            return Ok(());
-        };
-        if !place.contains(0) {
-            return Ok(());
-        }
-        let mut text = String::new(self.known.alloc);
-        self.known.push_begins(&mut text, "main: ", place, 0)?;
-        self.label(delivery_label(point, text))
+    fn label_main(&mut self, world: &World, at: Point) -> Pushed {
+        let mut words = String::new(self.known.alloc);
+        self.known.push_begins(&mut words, "main: ", world, at)?;
+        self.label(at, Tone::Notable, 0, &words, "")
     }
 
     /// The stays that live at a place.
-    fn settle(&mut self, world: &World, number: u16) -> Result<(), AllocError> {
-        let Some(place) = world.place(number) else {
-            return Ok(());
-        };
+    fn settle(&mut self, place: &Place) -> Pushed {
         let keys = place.keys(self.known.alloc)?;
         self.settle_all(place, &keys)
     }
 
-    /// The stays with some keys.
-    fn settle_all(&mut self, place: &Place, keys: &[usize]) -> Result<(), AllocError> {
+    /// The stays with some keys. One that waits for a stay of its own place goes on beside it.
+    fn settle_all(&mut self, place: &Place, keys: &[usize]) -> Pushed {
         for key in keys {
             self.begin_living(place, *key)?;
         }
         for key in keys {
-            self.mark_beside(place, *key)?;
-        }
-        Ok(())
-    }
-
-    /// A stay that lives, with the finishes that it has open.
-    fn begin_living(&mut self, place: &Place, key: usize) -> Result<(), AllocError> {
-        let number = place.id();
-        let (Some(stay), Some(column)) = (
-            place.stay(key),
-            self.columns.get_mut(usize::from(number)),
-        ) else {
-            return Ok(());
-        };
-        column.begin(key, state_of(stay), 0)?;
-        for finish in stay.finishes() {
-            self.push_bracket(number, key, *finish, None)?;
-        }
-        if self.before > 0 {
-            self.label_standing(number, key, stay)?;
-        }
-        Ok(())
-    }
-
-    /// The label of a stay that lives.
-    fn label_standing(&mut self, place: u16, key: usize, stay: &Stay) -> Result<(), AllocError> {
-        let (function, pc) = (stay.frame().function(), stay.frame().pc());
-        self.label(Label {
-            place,
-            lane: Some(key),
-            row: 0,
-            tone: Tone::Standing,
-            steps: 0,
-            text: format!(in self.known.alloc; "stands at {function}:{pc}")?,
-            full: None,
-        })
-    }
-
-    /// The stay that waits for a stay of its own place goes on beside it.
-    fn mark_beside(&mut self, place: &Place, key: usize) -> Result<(), AllocError> {
-        let Some(stay) = place.stay(key) else {
-            return Ok(());
-        };
-        match stay.back() {
-            Some(origin) if origin.place == place.id() => {
-                self.change(place.id(), origin.key as usize, State::Beside, 0)
+            if let Some(waiting) = waiting_for(place, *key) {
+                self.change(point_of(place.id(), waiting, 0), Some(Shape::Beside))?;
             }
-            _ => Ok(()),
         }
+        Ok(())
     }
 
-    /// The frames that are in flight to a place.
-    fn fly(&mut self, world: &World, place: u16) -> Result<(), AllocError> {
-        if let Some(column) = self.columns.get_mut(usize::from(place)) {
-            column.first_flight = self.arrows.len();
+    /// A stay that lives, with the finishes that it has open, and where it stands.
+    fn begin_living(&mut self, place: &Place, key: usize) -> Pushed {
+        let at = point_of(place.id(), key, 0);
+        let column = self.columns.get_mut(usize::from(at.place));
+        let (Some(stay), Some(column)) = (place.stay(key), column) else {
+            return Ok(());
+        };
+        column.begin(at, doing_of(stay))?;
+        for finish in stay.finishes() {
+            self.push_finish(at, *finish)?;
         }
+        if self.before == 0 {
+            return Ok(());
+        }
+        let (function, pc) = (stay.frame().function(), stay.frame().pc());
+        let words = format!(in self.known.alloc; "stands at {function}:{pc}")?;
+        self.label(at, Tone::Standing, 0, &words, "")
+    }
+
+    /// The frames that are in flight to a place. Where one goes to its own place, the stay that waits goes on beside another one.
+    fn fly(&mut self, world: &World, place: u16) -> Pushed {
+        let first = self.arrows.len();
         let mut from = 0u64;
         for _ in 0..world.posted() {
             let Some(number) = world.next_frame(place, from) else {
-                return Ok(());
+                break;
             };
-            self.fly_one(world, number)?;
             from = number.saturating_add(1);
+            self.fly_one(world, number)?;
+        }
+        if let Some(column) = self.columns.get_mut(usize::from(place)) {
+            column.flights = (first, self.arrows.len());
         }
         Ok(())
     }
 
-    /// A frame that is in flight. Where it goes to its own place, the stay that waits goes on beside another one.
-    fn fly_one(&mut self, world: &World, number: u64) -> Result<(), AllocError> {
-        let Some(arrow) = self.add_arrow(world, number, None)? else {
+    /// A frame that is in flight.
+    fn fly_one(&mut self, world: &World, number: u64) -> Pushed {
+        let Some(arrow) = self.add_arrow(world, None, number)? else {
             return Ok(());
         };
-        if let Some(column) = self.columns.get_mut(usize::from(arrow.to)) {
-            column.flights.push(number)?;
-        }
-        match arrow.waiting {
-            Some(key) if arrow.from.place == arrow.to => {
-                self.change(arrow.to, key, State::Beside, 0)
+        self.flights.push(number)?;
+        match arrow.other {
+            Some(key) if arrow.from.place == arrow.to.place => {
+                self.change(point_of(arrow.to.place, key, 0), Some(Shape::Beside))
             }
             _ => Ok(()),
         }

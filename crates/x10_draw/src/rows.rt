@@ -15,15 +15,15 @@ pub(crate) enum Row {
     Own(u64),
     /// A new row, which it shares with the steps after it.
     Opened(u64),
-    /// The row of the steps before it.
-    Shared(u64),
+    /// The row of the steps before it, and the number of their label.
+    Shared(u64, usize),
 }
 
 impl Row {
     /// The number of the row.
     pub(crate) fn number(self) -> u64 {
         match self {
-            Row::Own(row) | Row::Opened(row) | Row::Shared(row) => row,
+            Row::Own(row) | Row::Opened(row) | Row::Shared(row, _) => row,
         }
     }
 }
@@ -33,12 +33,12 @@ impl Row {
 pub(crate) struct Rows {
     /// The last row.
     pub(crate) last: u64,
-    /// How many quiet steps in a row have rows of their own, in a short picture.
+    /// How many quiet steps in a row have rows of their own in a short picture, and how many did since the last other step.
     shown: u64,
     quiet: u64,
     /// Whether the last row is one that steps share, the number of its label, and how many of them aren't quiet.
     shared: bool,
-    pub(crate) label: usize,
+    label: usize,
     local: u64,
     /// How many steps that aren't quiet may share a row, and how many rows did since that grew.
     most: u64,
@@ -65,6 +65,7 @@ impl Rows {
         ensures last { self.new.last ≡ result }
         ensures below { self.old.last < 2 ^ 64 - 1 → self.old.last < result }
         ensures other { below < 2 ^ 64 - 1 → below < result }
+        ensures kept { self.old.last ≤ self.new.last }
     {
         self.quiet = 0;
         self.shared = false;
@@ -72,44 +73,53 @@ impl Rows {
         self.last
     }
 
-    /// A new row that steps share.
-    fn open(&mut self, local: u64) -> Row
+    /// A new row that steps share, with the number of its label: one of them is local, or none.
+    fn open(&mut self, local: u64, label: usize) -> Row
         ensures { self.old.last ≤ self.new.last }
     {
         self.shared = true;
+        self.label = label;
         self.local = local;
         self.last = self.last.saturating_add(1);
         Row::Opened(self.last)
     }
 
-    /// How many quiet steps in a row have rows of their own now.
-    fn shown(self) -> u64 {
-        if self.last < DENSE {
-            self.shown
-        } else if self.last < LONG {
-            self.shown.min(2)
-        } else {
-            0
-        }
-    }
-
     /// The row of a step that its own stay alone can notice: its own for the first few in a row, and one for all that follow.
-    pub(crate) fn quiet(&mut self) -> Row
+    fn quiet(&mut self, label: usize) -> Row
         ensures { self.old.last ≤ self.new.last }
     {
+        let shown = match self.last {
+            0..DENSE => self.shown,
+            DENSE..LONG => self.shown.min(2),
+            _ => 0,
+        };
         if self.shared {
-            return Row::Shared(self.last);
+            return Row::Shared(self.last, self.label);
         }
-        if self.quiet >= self.shown() {
-            return self.open(0);
+        if self.quiet >= shown {
+            return self.open(0, label);
         }
         self.quiet = self.quiet.saturating_add(1);
         self.last = self.last.saturating_add(1);
         Row::Own(self.last)
     }
 
+    /// The row of a step: if it is quiet, its own stay alone can notice it, and if it is local, stays of its place alone. A row
+    /// that steps share gets the label with a number.
+    pub(crate) fn step(&mut self, quiet: bool, local: bool, label: usize) -> Row
+        ensures { self.old.last ≤ self.new.last }
+    {
+        if quiet {
+            return self.quiet(label);
+        }
+        if local {
+            return self.local(label);
+        }
+        Row::Own(self.next(0))
+    }
+
     /// The row of a step that stays of its place alone can notice: its own, unless the picture is long.
-    pub(crate) fn local(&mut self) -> Row
+    fn local(&mut self, label: usize) -> Row
         ensures { self.old.last ≤ self.new.last }
     {
         if self.last < LONG {
@@ -117,13 +127,13 @@ impl Rows {
         }
         if self.shared && self.local < self.most {
             self.local = self.local.saturating_add(1);
-            return Row::Shared(self.last);
+            return Row::Shared(self.last, self.label);
         }
         self.opened = self.opened.saturating_add(1);
         if self.opened >= STRETCH {
             self.opened = 0;
             self.most = self.most.saturating_mul(2);
         }
-        self.open(1)
+        self.open(1, label)
     }
 }
