@@ -1,5 +1,6 @@
 // A finish waits for activities two places away.
 // $ run
+// in any order
 // 0: all workers are done
 // 1: the foreman goes
 // 2: 1

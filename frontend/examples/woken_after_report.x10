@@ -1,5 +1,6 @@
 // A place that has reported to a finish is woken by an activity from a third place, and reports again.
 // $ run
+// in any order
 // 0: 9
 // 1: 1
 // 1: 2

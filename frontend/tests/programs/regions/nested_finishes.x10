@@ -5,9 +5,9 @@
 class Box { var n: Int; }
 def work(b: Box): Boolean {
   finish {
-    async { for (i in 1..30) {} b.n += 1; }
+    async { for (i in 1..30) {} atomic b.n += 1; }
     finish {
-      async { for (i in 1..10) {} b.n += 10; }
+      async { for (i in 1..10) {} atomic b.n += 10; }
       return b.n < 1000;
     }
   }

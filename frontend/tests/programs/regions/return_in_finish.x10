@@ -9,10 +9,10 @@
 class Box { var n: Int; }
 def work(b: Box, k: Int): Int {
   finish {
-    async { for (i in 1..20) {} b.n += 1; }
+    async { for (i in 1..20) {} atomic b.n += 1; }
     if (k == 1) return 10;
     if (k == 2) return 20;
-    b.n += 100;
+    atomic b.n += 100;
   }
   return 30;
 }
