@@ -9,7 +9,7 @@ from typing import Any
 
 from compiler.server import Server
 
-URI = "file:///home/ada/box%20one.x10"
+URI = "file:///sources/box%20one.x10"
 SOURCE = """class Box { var n: Int; }
 static val STEP = 2;
 def add(b: Box): Int = b.n + STEP;
