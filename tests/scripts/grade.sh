@@ -70,7 +70,7 @@ not graded: dan, three.asm: its name begins with no number
 mkdir -p odd/gil odd/hal
 ln -s "$answers/03_three_or_five.asm" odd/gil/3.asm
 ln -s "$top/examples/answers" odd/ida
-x10p asm "$answers/04_power.asm" odd/hal/4.asm
+x10p asm "$answers/04_power.asm" power.x10 && mv power.x10 odd/hal/4.asm
 printf 'a line\0' >odd/hal/5.asm
 printf '\xff\xfe' >odd/hal/10.asm
 does 0 "\
@@ -80,11 +80,11 @@ hal      -     no     no     no      -
 gil, 3: 3.asm is a link
 hal, 4: 4.asm is no text
 hal, 5: 5.asm is no text
-hal, 10: run --places 5: x10p: file
+hal, 10: run --places 1: x10p: file
 not graded: ida: it is a link
 0 of 4 texts passed" "" grade --csv odd.csv odd
 printf '%s\r\n' student,exercise,result,why "gil,3,no,3.asm is a link" gil,4,-, gil,5,-, gil,10,-, gil,13,-, hal,3,-, \
-    "hal,4,no,4.asm is no text" "hal,5,no,5.asm is no text" "hal,10,no,run --places 5: x10p: file" hal,13,-, >wanted.csv
+    "hal,4,no,4.asm is no text" "hal,5,no,5.asm is no text" "hal,10,no,run --places 1: x10p: file" hal,13,-, >wanted.csv
 cmp odd.csv wanted.csv || fail "the file of results is $(cat odd.csv)"
 does 2 "" "grade: none/odd.csv can't be written: No such file or directory" grade --csv none/odd.csv odd
 
