@@ -1,10 +1,10 @@
 //! The calls of the header about a module behind a handle.
-ghost use Rattle.std.specs.Prelude.{◌≡◌, ◌≢◌, None, Some, IsSome};
+ghost use Rattle.std.specs.Prelude.{◌≡◌, ◌≢◌, None, Some, IfOk, IfErr, IsSome};
 ghost use Rattle.x10_verify.specs.Certified.{Certified};
 ghost use Rattle.x10_world.specs.Endings.{IsImageOf};
 ghost use Rattle.x10_handles.specs.declared.inside.Inside.TheVariants as behind;
 ghost use Rattle.x10_handles.specs.Handles.{inside_of};
-ghost use Rattle.x10_cli.specs.Answers.{IsVerifiedImage};
+ghost use Rattle.x10_cli.specs.Answers.{IsDue, IsVerifiedImage, status_of};
 ghost use Rattle.x10_c.specs.Numbers.{no_fault};
 ghost use Rattle.x10_c.specs.Calls.{IsMutAddress, IsTold};
 
@@ -15,6 +15,19 @@ use crate::numbers::FaultNumbers;
 use std::alloc::Global;
 use x10_cli::{Fault, verified_in};
 use x10_handles::{Handle, Unopened, close, is_open, open_module};
+use x10_verify::Verified;
+
+/// The module of an image, verified.
+fn module_of<'a>(alloc: Global, image: &'a [u8]) -> Result<Verified<'a>, Fault>
+    ensures found { IfOk result (IsImageOf image.now) }
+    ensures refused { IfErr result (λ e. status_of e ≡ 1 → IsVerifiedImage image.now → ⊥) }
+    ensures due { IfErr result (IsDue None image.now) }
+{
+    match verified_in(alloc, image) {
+        Ok(module) => Ok(module),
+        Err(fault) => Err(fault),
+    }
+}
 
 /// Verifies an image, and opens a handle of its module. 0: it is open; 1: the image isn't that of a module that the verifier
 /// accepts, and the fault is the one that is due; 2: memory was refused; 8: the handle is open already. Where it isn't 0, no
@@ -43,7 +56,7 @@ pub extern "C" fn burjeeg_module_new(
     if is_open(handle) {
         return IN_USE;
     }
-    match verified_in(alloc, image) {
+    match module_of(alloc, image) {
         Ok(module) => match open_module(alloc, module, image, handle) {
             Ok(()) => tell(Ok(()), told),
             Err(Unopened::Memory) => tell(Err(Fault::Memory), told),
